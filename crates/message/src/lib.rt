@@ -1,0 +1,199 @@
+ghost use mathlib.Core.Path.{_≡_};
+ghost use Rattle.message.specs.Kinds.{kindOf, kindNumber, kindNumbered};
+ghost use Rattle.message.specs.Versions.{versionAllows, versionHas};
+
+use wire::Refusal;
+use wire::Span;
+
+pub mod kind;
+
+// The largest message, in bytes.
+pub const LARGEST: usize = 1_073_741_823;
+
+// A protocol version: any number, known or not.
+pub struct Version {
+    pub number: u32,
+}
+
+impl Version {
+    // Transactions come whole, after their commit.
+    pub const FIRST: u32 = 1;
+    // Large transactions come in stream blocks while they are in progress.
+    pub const STREAMING: u32 = 2;
+
+    // Whether this version is known and, inside a stream block, has stream blocks.
+    pub fn allows(self, in_block: bool) -> bool
+        ensures { λ r. ⌜ r ≡ versionAllows self «in_block» ⌝ }
+    {
+        let number = self.number;
+        if number == Self::FIRST {
+            !in_block
+        } else {
+            number == Self::STREAMING
+        }
+    }
+
+    // Whether this version is known and has the kind of this number.
+    pub fn has(self, kind: u8) -> bool
+        ensures { λ r. ⌜ r ≡ versionHas self (kindNumbered kind) ⌝ }
+    {
+        let number = self.number;
+        match kind {
+            kind::BEGIN..=kind::MESSAGE => {
+                if number == Self::FIRST {
+                    true
+                } else {
+                    number == Self::STREAMING
+                }
+            }
+            kind::STREAM_START..=kind::STREAM_ABORT => number == Self::STREAMING,
+            _ => false,
+        }
+    }
+}
+
+// Texts, contents and values are parts of the message's bytes. A tuple, a Relation's columns and a Truncate's OIDs lie
+// in their layout from an offset on. An `xid` that only stands inside a stream block is 0 elsewhere.
+pub struct Begin {
+    pub final_lsn: u64,
+    pub time: i64,
+    pub xid: u32,
+}
+
+pub struct Commit {
+    pub flags: u8,
+    pub commit_lsn: u64,
+    pub end_lsn: u64,
+    pub time: i64,
+}
+
+pub struct Origin {
+    pub lsn: u64,
+    pub name: Span,
+}
+
+pub struct Relation {
+    pub xid: u32,
+    pub relation: u32,
+    pub namespace: Span,
+    pub name: Span,
+    pub identity: u8,
+    pub count: u16,
+    pub columns: usize,
+}
+
+// The letters of a replica identity.
+impl Relation {
+    pub const DEFAULT: u8 = b'd';
+    pub const NOTHING: u8 = b'n';
+    pub const FULL: u8 = b'f';
+    pub const INDEX: u8 = b'i';
+}
+
+pub struct Type {
+    pub xid: u32,
+    pub oid: u32,
+    pub namespace: Span,
+    pub name: Span,
+}
+
+pub struct Insert {
+    pub xid: u32,
+    pub relation: u32,
+    pub tuple: usize,
+}
+
+// The old tuple of an Update, where it starts.
+pub enum OldTuple {
+    Nothing,
+    Key(usize),
+    Full(usize),
+}
+
+pub struct Update {
+    pub xid: u32,
+    pub relation: u32,
+    pub old: OldTuple,
+    pub tuple: usize,
+}
+
+// `image` says what the tuple holds: `K`, the key, or `O`, the whole old row.
+pub struct Delete {
+    pub xid: u32,
+    pub relation: u32,
+    pub image: u8,
+    pub tuple: usize,
+}
+
+pub struct Truncate {
+    pub xid: u32,
+    pub count: u32,
+    pub options: u8,
+    pub relations: usize,
+}
+
+// The bits of a Truncate's options.
+impl Truncate {
+    pub const CASCADE: u8 = 1;
+    pub const RESTART_IDENTITY: u8 = 2;
+}
+
+pub struct LogicalMessage {
+    pub xid: u32,
+    pub flags: u8,
+    pub lsn: u64,
+    pub prefix: Span,
+    pub content: Span,
+}
+
+pub struct StreamStart {
+    pub xid: u32,
+    pub first: u8,
+}
+
+pub struct StreamCommit {
+    pub xid: u32,
+    pub flags: u8,
+    pub commit_lsn: u64,
+    pub end_lsn: u64,
+    pub time: i64,
+}
+
+pub struct StreamAbort {
+    pub xid: u32,
+    pub sub_xid: u32,
+}
+
+pub enum Message {
+    Begin(Begin),
+    Commit(Commit),
+    Origin(Origin),
+    Relation(Relation),
+    Type(Type),
+    Insert(Insert),
+    Update(Update),
+    Delete(Delete),
+    Truncate(Truncate),
+    Message(LogicalMessage),
+    StreamStart(StreamStart),
+    StreamStop,
+    StreamCommit(StreamCommit),
+    StreamAbort(StreamAbort),
+}
+
+// What reading gives.
+pub enum Read {
+    Message(Message),
+    Refused(Refusal),
+}
+
+// The number of the kind that a first byte names, and 0 for each other byte.
+const KINDS: [u8; 256] = [
+    0, 0, 0, 0, 0, 0, 0, 0, 0, 0, 0, 0, 0, 0, 0, 0, 0, 0, 0, 0, 0, 0, 0, 0, 0, 0, 0, 0, 0, 0, 0, 0, 0, 0, 0, 0, 0, 0, 0, 0, 0, 0, 0, 0, 0, 0, 0, 0, 0, 0, 0, 0, 0, 0, 0, 0, 0, 0, 0, 0, 0, 0, 0, 0, 0, 14, 1, 2, 8, 12, 0, 0, 0, 6, 0, 0, 0, 10, 0, 3, 0, 0, 4, 11, 9, 7, 0, 0, 0, 5, 0, 0, 0, 0, 0, 0, 0, 0, 0, 13, 0, 0, 0, 0, 0, 0, 0, 0, 0, 0, 0, 0, 0, 0, 0, 0, 0, 0, 0, 0, 0, 0, 0, 0, 0, 0, 0, 0, 0, 0, 0, 0, 0, 0, 0, 0, 0, 0, 0, 0, 0, 0, 0, 0, 0, 0, 0, 0, 0, 0, 0, 0, 0, 0, 0, 0, 0, 0, 0, 0, 0, 0, 0, 0, 0, 0, 0, 0, 0, 0, 0, 0, 0, 0, 0, 0, 0, 0, 0, 0, 0, 0, 0, 0, 0, 0, 0, 0, 0, 0, 0, 0, 0, 0, 0, 0, 0, 0, 0, 0, 0, 0, 0, 0, 0, 0, 0, 0, 0, 0, 0, 0, 0, 0, 0, 0, 0, 0, 0, 0, 0, 0, 0, 0, 0, 0, 0, 0, 0, 0, 0, 0, 0, 0, 0, 0, 0, 0, 0, 0, 0, 0, 0, 0, 0, 0, 0, 0, 0, 0, 0, 0, 0, 0, 0, 0
+];
+
+pub fn kind_of(letter: u8) -> u8
+    ensures { λ r. ⌜ r ≡ kindNumber (kindOf letter) ⌝ }
+{
+    KINDS[letter as usize]
+}

@@ -1,0 +1,5 @@
+pub mod Numbers
+pub mod Fields
+pub mod Cases
+pub mod Signed
+pub mod Values
