@@ -1,2 +1,4 @@
 pub mod Letters
 pub mod Versions
+pub mod Parts
+pub mod Local

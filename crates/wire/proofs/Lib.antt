@@ -3,3 +3,4 @@ pub mod Fields
 pub mod Cases
 pub mod Signed
 pub mod Values
+pub mod There
