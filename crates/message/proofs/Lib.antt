@@ -2,3 +2,5 @@ pub mod Letters
 pub mod Versions
 pub mod Parts
 pub mod Local
+pub mod Judged
+pub mod Short

@@ -107,7 +107,7 @@ local-then F G f g =
         ∙ ap At s
     }
 
-number-local : (w low high n : ℕ) → Local (λ xs c. numberField w low high n xs c .next)
+pub number-local : (w low high n : ℕ) → Local (λ xs c. numberField w low high n xs c .next)
 unfolding numberField
 number-local w low high n =
     record {
@@ -122,7 +122,7 @@ number-local w low high n =
         rw (z, number-read w low high n ys b (h .there) (ap (inRange low high) (be-same w h) ∙ i .1))
     }
 
-letter-local : (set : List ℕ) → Local (λ xs c. letterField set xs c .next)
+pub letter-local : (set : List ℕ) → Local (λ xs c. letterField set xs c .next)
 unfolding letterField
 letter-local set =
     record {
@@ -141,7 +141,7 @@ letter-local set =
     same-byte : (xs ys : List ℕ) (a b : ℕ) → Agree xs a ys b 1 → getD ys b 0 ≡ getD xs a 0
     same-byte xs ys a b h = let p : b + 0 ≡ b = omega arith in let q : a + 0 ≡ a = omega arith in rw (p, q) at (h .same 0 (omega arith))
 
-text-local : Local (λ xs c. textField xs c .next)
+pub text-local : Local (λ xs c. textField xs c .next)
 unfolding textField
 text-local =
     record {
@@ -163,7 +163,7 @@ text-local =
         rw (text-read ys b u there (omega (arith, h .there)), z, s)
     }
 
-bytes-local : (n : ℕ) → Local (λ xs c. bytesField n xs c .next)
+pub bytes-local : (n : ℕ) → Local (λ xs c. bytesField n xs c .next)
 unfolding bytesField
 bytes-local n =
     record {
