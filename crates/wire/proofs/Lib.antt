@@ -4,3 +4,4 @@ pub mod Cases
 pub mod Signed
 pub mod Values
 pub mod There
+pub mod Bits

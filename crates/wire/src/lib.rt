@@ -2,7 +2,7 @@ ghost use mathlib.Core.Path.{_≡_};
 ghost use Prim.Native.Nat.{_+_, _≤_};
 ghost use lib.ListN.{drop};
 ghost use lib.IntN.{ℤ};
-ghost use mir.Val.{toZ};
+ghost use mir.Val.{toZ, ofZ};
 ghost use mir.Syntax.{w32, w64};
 ghost use Rattle.wire.specs.Numbers.{wordAt};
 ghost use Rattle.wire.specs.Fields.{member, numberField, letterField, untilZero, textField, bytesField, valueField, valueEnd, narrow8, narrow16, narrow32, positionOf};
@@ -182,6 +182,17 @@ pub fn signed64(v: u64) -> i64
         v as i64
     } else {
         -1 - (0xFFFF_FFFF_FFFF_FFFF - v) as i64
+    }
+}
+
+// The bits of a signed number.
+pub fn bits64(v: i64) -> u64
+    ensures { λ r. ⌜ r ≡ ofZ w64 v ⌝ }
+{
+    if v < 0 {
+        0xFFFF_FFFF_FFFF_FFFF - ((-1 - v) as u64)
+    } else {
+        v as u64
     }
 }
 

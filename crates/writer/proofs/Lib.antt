@@ -1,0 +1,4 @@
+pub mod Judge
+pub mod Stores
+pub mod Whole
+pub mod Old
