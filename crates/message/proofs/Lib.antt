@@ -4,3 +4,8 @@ pub mod Parts
 pub mod Local
 pub mod Judged
 pub mod Short
+pub mod Again
+pub mod From
+pub mod Says
+pub mod Back
+pub mod RoundTrip
