@@ -2,3 +2,4 @@ pub mod Judge
 pub mod Stores
 pub mod Whole
 pub mod Old
+pub mod RoundTrips

@@ -1,12 +1,13 @@
 -- A message that was judged, and then refused or stored. Assumes nothing.
 use Prim.Native.Nat.{ℕ, _≤_, _<_}
-use mathlib.Core.List.{List}
+use mathlib.Core.List.{List, _++_}
 use mathlib.Core.Bool.{Bool, true, false, cond}
 use mathlib.Core.Option.{some}
 use mathlib.Core.Path.{_≡_, refl, sym, _∙_, ap}
 use native.Mathlib.Omega.{arith}
 use borrow.Author.Tests.{le-leb, lt-leb, leb-true, leb-false}
-use lib.ListN.{length}
+use lib.ListN.{length, take, drop}
+use lib.Seq.{take-append-seam}
 use lib.Dec.{leb}
 use Rattle.wire.specs.declared.Cursor.{Cursor}
 use Rattle.wire.specs.declared.Cursor.the-variants.{At, Refused}
@@ -16,7 +17,7 @@ use Rattle.message.specs.declared.Message.{Message}
 use Rattle.message.specs.Kinds.{kindNumbered, kindNumber}
 use Rattle.message.specs.Versions.{versionAllows, versionHas}
 use Rattle.message.specs.Encode.{kindOfMessage}
-use Rattle.message.specs.Write.{writeMessage}
+use Rattle.message.specs.Write.{Writing, bytes, refused, writeMessage}
 use Rattle.message.specs.Pieces.{placed, steps, bytesOf, messagePieces, outcome, fieldsWritten, writeShort}
 use Rattle.message.proofs.Letters.{numbered-number}
 use Rattle.message.proofs.Judged.{message-end}
@@ -91,3 +92,16 @@ module _ (v : Version) (b : Bool) (m : Message) (src out : List ℕ) where
     pub by-kind : {r : Written} {o : List ℕ} → t ≡ true → Settles (fieldsWritten b m src) out r o → Settles (writeMessage v b m src) out r o
     unfolding writeShort
     by-kind e s = rw (short v b m src, h, ← known, e) s
+
+-- AN ANSWER
+
+-- a length that was answered is the length of the bytes that lie at the front of the output
+pub wrote : (w : Writing) (out out′ : List ℕ) (n : ℕ) → Settles w out (Length n) out′ → (ys : List ℕ) × (w ≡ bytes ys) × (take n out′ ≡ ys)
+wrote (refused k o) out out′ n s = let a = s .answer in let z : _≡_ {A = ℕ} 0 1 = cc in absurd (omega arith)
+wrote (bytes ys) out out′ n s = go (leb (length ys) (length out)) (s .answer) (s .output)
+  where
+    go :
+        (t : Bool) → Length n ≡ cond t (Length (length ys)) (refusal 13 0) → out′ ≡ cond t (ys ++ drop (length ys) out) out
+        → (zs : List ℕ) × (bytes ys ≡ bytes zs) × (take n out′ ≡ zs)
+    go true a b = let i : n ≡ length ys = cc in (ys, refl, rw (i, b, take-append-seam ys (drop (length ys) out)))
+    go false a b = let z : _≡_ {A = ℕ} 0 1 = cc in absurd (omega arith)
