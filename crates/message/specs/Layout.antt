@@ -83,7 +83,7 @@ readGroups w low high between fs xs c =
     let b = readGroup between xs (n .next) in
     record {
       values = n .value ∷ b .values ++ (positionOf (b .next) ∷ []);
-      next = groupsEnd fs xs (n .value) (b .next)
+      next = groupsEnd fs xs (n .value) (b .next);
     }
 
 -- the most columns that a tuple or a relation has

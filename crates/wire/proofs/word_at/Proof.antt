@@ -64,10 +64,11 @@ loop-less : tie.Need-loop-less Inv-loop μ-loop
 loop-less c = omega arith
 
 loop-again : tie.Need-loop-again Inv-loop μ-loop
-loop-again c =
-    (omega arith,
-     rw (be-more, ← c .before .before .loop .inv .1),
-     more _ (c .before .before .loop .inv .2) (byte c))
+loop-again c = (
+  omega arith,
+  rw (be-more, ← c .before .before .loop .inv .1),
+  more _ (c .before .before .loop .inv .2) (byte c),
+)
 
 returns-3 : tie.Need-returns-3 Inv-loop μ-loop
 returns-3 c =

@@ -1,0 +1,3 @@
+pub mod Without
+pub mod Columns
+pub mod Parts
