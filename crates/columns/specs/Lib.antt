@@ -1,3 +1,4 @@
 pub mod Parts
 pub mod Starts
 pub mod Steps
+pub mod Visits

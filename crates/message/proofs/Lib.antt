@@ -1,2 +1,3 @@
 pub mod Letters
 pub mod Versions
+pub mod Accepted
