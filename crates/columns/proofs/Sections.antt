@@ -2,16 +2,15 @@
 use Prim.Native.Nat.{ℕ}
 use mathlib.Core.List.{List, [], _∷_}
 use mathlib.Core.Bool.{Bool, true, false, cond}
-use mathlib.Core.Path.{_≡_, refl, ap, sym, _∙_}
+use mathlib.Core.Path.{_≡_, ap, sym, _∙_}
 use native.Mathlib.Omega.{arith}
 use lib.Dec.{eqb}
-use lib.ListN.{length}
 use Rattle.wire.specs.declared.Cursor.{Cursor}
-use Rattle.wire.specs.declared.Cursor.the-variants.{At, Refused}
+use Rattle.wire.specs.declared.Cursor.the-variants.{At}
 use Rattle.wire.specs.declared.Field8.{Field8}
-use Rattle.wire.specs.Fields.{numberField, letterField, positionOf}
+use Rattle.wire.specs.Fields.{letterField, positionOf}
 use Rattle.message.specs.declared.OldTuple.the-variants as old
-use Rattle.message.specs.Layout.{Field, column, groupsEnd, tupleEnd, Optional, optional, readFields}
+use Rattle.message.specs.Layout.{Field, groupsEnd, tupleEnd, Optional, optional, readFields}
 use Rattle.message.specs.Kinds.{Kind, begin, commit, origin, relation, type, insert, update, delete, truncate, message, streamStart, streamStop, streamCommit, streamAbort, layout, columnFields, id, keyOrOld}
 use Rattle.message.specs.Messages.{messageOf, oldTuple}
 use Rattle.message.proofs.Accepted.{reached}
@@ -19,7 +18,6 @@ use Rattle.columns.specs.declared.Position.{Position}
 use Rattle.columns.specs.declared.Contents.{Contents}
 use Rattle.columns.specs.declared.Found.{Found}
 use Rattle.columns.specs.declared.Found.the-variants as found
-use Rattle.columns.specs.declared.Started.{Started}
 use Rattle.columns.specs.declared.Started.the-variants as started
 use Rattle.columns.specs.Starts.{absent, at, oldOffset, withTuples, contentsOf}
 use Rattle.columns.proofs.Stays.{letter-stays, groups-stay, tuple-stays}

@@ -3,7 +3,7 @@ use Prim.Native.Nat.{ℕ, zero, suc}
 use mathlib.Core.List.{List, [], _∷_}
 use mathlib.Core.Path.{_≡_, refl, ap, _∙_}
 use Rattle.wire.specs.declared.Cursor.{Cursor}
-use Rattle.wire.specs.declared.Cursor.the-variants.{At, Refused}
+use Rattle.wire.specs.declared.Cursor.the-variants.{Refused}
 use Rattle.wire.specs.Fields.{numberField, letterField, textField, bytesField, valueField}
 use Rattle.message.specs.Layout.{Field, number, constant, letter, text, value, column, columnEnd, readField, readGroup, times, groupsEnd, tupleEnd}
 

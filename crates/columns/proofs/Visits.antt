@@ -2,13 +2,12 @@
 -- the layout ends, and then say that it is over. Said once over what is stepped through. Assumes nothing.
 use Prim.Native.Nat.{ℕ, zero, suc, _+_, _-_}
 use mathlib.Core.List.{List, [], _∷_}
-use mathlib.Core.Bool.{Bool, true, false}
-use mathlib.Core.Path.{_≡_, refl, ap, sym, _∙_}
+use mathlib.Core.Bool.{Bool}
+use mathlib.Core.Path.{_≡_, refl, ap}
 use native.Mathlib.Nat.{zero-add, suc-add}
 use native.Mathlib.Omega.{arith}
 use borrow.Author.Tests.{ne-eqb}
 use lib.ListN.{length}
-use Rattle.wire.specs.declared.Cursor.{Cursor}
 use Rattle.wire.specs.declared.Cursor.the-variants.{At, Refused}
 use Rattle.wire.specs.declared.Refusal.{Refusal}
 use Rattle.wire.specs.Fields.{numberField}
@@ -16,7 +15,7 @@ use Rattle.message.specs.declared.Version.{Version}
 use Rattle.message.specs.declared.Message.{Message}
 use Rattle.message.specs.declared.Read.{Read}
 use Rattle.message.specs.declared.Read.the-variants as read
-use Rattle.message.specs.Layout.{Field, column, mostColumns, readGroup, times, groupsEnd, tupleEnd}
+use Rattle.message.specs.Layout.{Field, column, mostColumns, readGroup, groupsEnd, tupleEnd}
 use Rattle.message.specs.Messages.{readMessage}
 use Rattle.message.proofs.Accepted.{Accepted, accepted, reached}
 use Rattle.columns.specs.declared.Position.{Position}
@@ -25,8 +24,7 @@ use Rattle.columns.specs.declared.Found.{Found}
 use Rattle.columns.specs.declared.Found.the-variants as found
 use Rattle.columns.specs.declared.Which.the-variants.{Old, New}
 use Rattle.columns.specs.Starts.{contentsOf, tuplePosition}
-use Rattle.columns.specs.Steps.{stood, stepped, over, after}
-use Rattle.columns.specs.Visits.{Section, tuple, columns, oids, fieldsOf, startOf, groupsOf, Visit, visit, visited, noting}
+use Rattle.columns.specs.Visits.{Section, tuple, columns, oids, fieldsOf, startOf, groupsOf, Visit, visit, visited}
 use Rattle.columns.proofs.Stays.{groups-stay}
 use Rattle.columns.proofs.Sections.{TupleAt, GroupsAt, Sound, groups-at, kind-sound}
 

@@ -2,3 +2,4 @@ pub mod Parts
 pub mod Starts
 pub mod Steps
 pub mod Visits
+pub mod Readers

@@ -10,7 +10,6 @@ use Rattle.message.specs.declared.Message.the-variants as m
 use Rattle.message.specs.declared.Read.{Read}
 use Rattle.message.specs.declared.Read.the-variants as read
 use Rattle.message.specs.Layout.{mostColumns}
-use Rattle.columns.specs.declared.Position.{Position}
 use Rattle.columns.specs.declared.Started.{Started}
 use Rattle.columns.specs.declared.Started.the-variants as started
 use Rattle.columns.specs.declared.Which.{Which}

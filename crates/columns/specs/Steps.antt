@@ -1,16 +1,15 @@
 -- One step, from any position (document 01, "Looking at a tuple"): said once over the fields of what is stepped through.
-use Prim.Native.Nat.{ℕ, zero, suc, _-_}
+use Prim.Native.Nat.{ℕ, _-_}
 use mathlib.Core.List.{List, [], _∷_}
-use mathlib.Core.Bool.{Bool, cond, _||_}
+use mathlib.Core.Bool.{cond, _||_}
 use lib.Dec.{eqb}
 use lib.ListN.{getD}
 use mir.Syntax.{w32}
 use mir.Val.{toZ}
-use Rattle.wire.specs.declared.Span.{Span}
 use Rattle.wire.specs.declared.Cursor.{Cursor}
 use Rattle.wire.specs.declared.Cursor.the-variants.{At, Refused}
 use Rattle.wire.specs.Fields.{letterField, valueField}
-use Rattle.message.specs.Layout.{Field, column, columnLetters, Step, readGroup}
+use Rattle.message.specs.Layout.{Field, column, columnLetters, readGroup}
 use Rattle.message.specs.Kinds.{columnFields, id}
 use Rattle.columns.specs.declared.Position.{Position}
 use Rattle.columns.specs.declared.ColumnField.{ColumnField}

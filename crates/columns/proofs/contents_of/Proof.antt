@@ -1,4 +1,4 @@
-use mathlib.Core.Path.{_≡_, sym, _∙_}
+use mathlib.Core.Path.{sym, _∙_}
 use Rattle.columns.proofs.Without.{nothing-in}
 use borrow.Author.Needs.{needs}
 use Rattle.columns.proofs.contents_of.Statement.{statement}
