@@ -44,7 +44,7 @@ fn length_16(xs: &[u16]) -> usize
     xs.len()
 }
 
-// Missing to run: a lent array has its length, which a proof learns where it is lent as a slice.
+// Nothing to run: a lent array has its length, which a proof learns where it is lent as a slice.
 pub fn sized_keys(owners: &[u32; ROWS], oids: &[u32; ROWS])
     ensures { λ _. ⌜ (length (now (owners .entry)) ≡ 256) × (length (now (oids .entry)) ≡ 256) ⌝ }
 {
