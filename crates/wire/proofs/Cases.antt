@@ -8,6 +8,7 @@ use borrow.Author.Tests.{leb-true, ltb-true}
 use lib.ListN.{length, getD, drop}
 use lib.Dec.{leb, ltb}
 use Rattle.wire.specs.declared.Word.the-variants.{Value, Short}
+use Rattle.wire.specs.declared.Cursor.{Cursor}
 use Rattle.wire.specs.declared.Cursor.the-variants.{At, Refused}
 use Rattle.wire.specs.declared.Field64.{Field64}
 use Rattle.wire.specs.declared.Field8.{Field8}
@@ -37,6 +38,13 @@ module _ (set xs : List ℕ) (a : ℕ) (P : Field8 → Type 0) (bad : (k : ℕ) 
       go true e true i = good (ltb-true a (length xs) e) i
       go true e false i = bad 4
       go false e m i = bad 2
+
+-- a letter that was read is of its set
+pub letter-in : (set xs : List ℕ) (c : Cursor) → (letterField set xs c .value ≡ 0 → ⊥) → member set (letterField set xs c .value) ≡ true
+unfolding letterField
+letter-in set xs (Refused m o) z = absurd (z refl)
+letter-in set xs (At a) z =
+    letter-cases set xs a (λ (f : Field8). (f .value ≡ 0 → ⊥) → member set (f .value) ≡ true) (λ k z. absurd (z refl)) (λ h m z. m) z
 
 module _ (xs : List ℕ) (a : ℕ) (P : FieldSpan → Type 0) (bad : P (noSpan (Refused 2 a))) where
   pub text-cases :

@@ -1,0 +1,5 @@
+pub mod Top
+pub mod End
+pub mod Groups
+pub mod Fast
+pub mod Columns
