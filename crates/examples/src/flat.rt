@@ -1,4 +1,10 @@
 // A message as the list of its numbers, in the form that the second reader gives.
+ghost use mathlib.Core.Path.{_≡_};
+ghost use mathlib.Core.Bool.{true};
+ghost use Prim.Native.Nat.{_≤_};
+ghost use lib.ListN.{length};
+ghost use Rattle.examples.specs.Answers.{numberOf, offsetOf, Same};
+use crate::text;
 use message::Begin;
 use message::Commit;
 use message::Delete;
@@ -32,17 +38,12 @@ fn bits64(v: i64) -> u64 {
     }
 }
 
-fn byte_at(bytes: &[u8], at: usize) -> u64 {
-    if at < bytes.len() { wide(bytes[at]) } else { 0 }
-}
-
-fn wide(b: u8) -> u64 {
-    b as u64
-}
-
 impl List {
     fn new(letter: u8) -> Self {
-        List { count: 0, values: [0; 16] }.byte(letter)
+        List {
+            count: 0,
+            values: [0; 16],
+        }.byte(letter)
     }
 
     fn number(mut self, value: u64) -> Self {
@@ -76,8 +77,9 @@ impl List {
 
     // A tuple's start and its count.
     fn tuple(self, bytes: &[u8], start: usize) -> Self {
-        let low = std::num::wrapping_add_usize(start, 1);
-        self.offset(start).number((byte_at(bytes, start) << 8) | byte_at(bytes, low))
+        let high = text::byte_at(bytes, start) as u64;
+        let low = text::byte_at(bytes, std::num::wrapping_add_usize(start, 1)) as u64;
+        self.offset(start).number((high << 8) | low)
     }
 
     fn old_tuple(self, bytes: &[u8], old: OldTuple) -> Self {
@@ -94,7 +96,11 @@ fn begin(m: Begin) -> List {
 }
 
 fn commit(m: Commit) -> List {
-    List::new(b'C').byte(m.flags).number(m.commit_lsn).number(m.end_lsn).time(m.time)
+    List::new(b'C')
+        .byte(m.flags)
+        .number(m.commit_lsn)
+        .number(m.end_lsn)
+        .time(m.time)
 }
 
 fn origin(m: Origin) -> List {
@@ -102,33 +108,69 @@ fn origin(m: Origin) -> List {
 }
 
 fn relation(m: Relation) -> List {
-    let names = List::new(b'R').word(m.xid).word(m.relation).span(m.namespace).span(m.name);
-    names.byte(m.identity).number(m.count as u64).offset(m.columns)
+    let names = List::new(b'R')
+        .word(m.xid)
+        .word(m.relation)
+        .span(m.namespace)
+        .span(m.name);
+    names
+        .byte(m.identity)
+        .number(m.count as u64)
+        .offset(m.columns)
 }
 
 fn named_type(m: Type) -> List {
-    List::new(b'Y').word(m.xid).word(m.oid).span(m.namespace).span(m.name)
+    List::new(b'Y')
+        .word(m.xid)
+        .word(m.oid)
+        .span(m.namespace)
+        .span(m.name)
 }
 
 fn insert(m: Insert, bytes: &[u8]) -> List {
-    List::new(b'I').word(m.xid).word(m.relation).tuple(bytes, m.tuple)
+    List::new(b'I')
+        .word(m.xid)
+        .word(m.relation)
+        .tuple(bytes, m.tuple)
 }
 
 fn update(m: Update, bytes: &[u8]) -> List {
-    let Update { xid, relation, old, tuple } = m;
-    List::new(b'U').word(xid).word(relation).old_tuple(bytes, old).tuple(bytes, tuple)
+    let Update {
+        xid,
+        relation,
+        old,
+        tuple,
+    } = m;
+    List::new(b'U')
+        .word(xid)
+        .word(relation)
+        .old_tuple(bytes, old)
+        .tuple(bytes, tuple)
 }
 
 fn delete(m: Delete, bytes: &[u8]) -> List {
-    List::new(b'D').word(m.xid).word(m.relation).byte(m.image).tuple(bytes, m.tuple)
+    List::new(b'D')
+        .word(m.xid)
+        .word(m.relation)
+        .byte(m.image)
+        .tuple(bytes, m.tuple)
 }
 
 fn truncate(m: Truncate) -> List {
-    List::new(b'T').word(m.xid).word(m.count).byte(m.options).offset(m.relations)
+    List::new(b'T')
+        .word(m.xid)
+        .word(m.count)
+        .byte(m.options)
+        .offset(m.relations)
 }
 
 fn logical_message(m: LogicalMessage) -> List {
-    List::new(b'M').word(m.xid).byte(m.flags).number(m.lsn).span(m.prefix).span(m.content)
+    List::new(b'M')
+        .word(m.xid)
+        .byte(m.flags)
+        .number(m.lsn)
+        .span(m.prefix)
+        .span(m.content)
 }
 
 fn stream_start(m: StreamStart) -> List {
@@ -136,7 +178,12 @@ fn stream_start(m: StreamStart) -> List {
 }
 
 fn stream_commit(m: StreamCommit) -> List {
-    List::new(b'c').word(m.xid).byte(m.flags).number(m.commit_lsn).number(m.end_lsn).time(m.time)
+    List::new(b'c')
+        .word(m.xid)
+        .byte(m.flags)
+        .number(m.commit_lsn)
+        .number(m.end_lsn)
+        .time(m.time)
 }
 
 fn stream_abort(m: StreamAbort) -> List {
@@ -163,25 +210,45 @@ fn message(m: Message, bytes: &[u8]) -> List {
 }
 
 // What the reader gave for `bytes`.
-pub fn seen(read: Read, bytes: &[u8]) -> Seen {
+pub fn seen(read: Read, bytes: &[u8]) -> Seen
+    ensures { λ r. ⌜ (r .number ≡ numberOf read) × (r .offset ≡ offsetOf (length (now (bytes .entry))) read) ⌝ }
+{
     match read {
         Read::Message(m) => {
             let list = message(m, bytes);
             let values = list.values;
-            Seen { number: 0, offset: bytes.len(), count: list.count, values }
+            Seen {
+                number: 0,
+                offset: bytes.len(),
+                count: list.count,
+                values,
+            }
         }
-        Read::Refused(refusal) => Seen { number: refusal.number, offset: refusal.offset, count: 0, values: [0; 16] },
+        Read::Refused(refusal) => Seen {
+            number: refusal.number,
+            offset: refusal.offset,
+            count: 0,
+            values: [0; 16],
+        },
     }
 }
 
 // Whether two answers are the same.
-pub fn same(a: Seen, b: Seen) -> bool {
+pub fn same(a: Seen, b: Seen) -> bool
+    ensures { λ r. ⌜ (r ≡ true → Same a b) ⌝ }
+{
     let mut k: usize = 0;
     while k < 16 {
-        if k < a.count && a.values[k] != b.values[k] {
+        if a.values[k] != b.values[k] {
             return false;
         }
         k += 1;
     }
-    a.number == b.number && a.offset == b.offset && a.count == b.count
+    if a.number != b.number {
+        return false;
+    }
+    if a.offset != b.offset {
+        return false;
+    }
+    a.count == b.count
 }

@@ -1,19 +1,24 @@
 // Gives the cases of its standard input to the reader and to the second reader, and says for each group how many ran and
 // on how many both gave the same answer and the one that stands there. Cases that are marked for it are then varied: at
 // every version and place, cut short, made longer, and with one byte changed.
+ghost use Prim.Native.Nat.{_≤_};
+ghost use lib.ListN.{length};
 use libc::STDIN_FILENO;
 use libc::STDOUT_FILENO;
 use message::Version;
 use second_reader::Seen;
-use text::Case;
 
 mod flat;
 mod text;
 
 const AS_WRITTEN: u8 = 0;
+
 const EVERY_VERSION: u8 = 1;
+
 const CUT_SHORT: u8 = 2;
+
 const LONGER: u8 = 3;
+
 const CHANGED: u8 = 4;
 
 // The bytes that are put in: numbers at the edges, and every letter that a layout has.
@@ -29,7 +34,11 @@ struct Tally {
 impl Tally {
     fn with(self, is_agreed: bool) -> Self {
         let cases = std::num::wrapping_add_u64(self.cases, 1);
-        let agreed = if is_agreed { std::num::wrapping_add_u64(self.agreed, 1) } else { self.agreed };
+        let agreed = if is_agreed {
+            std::num::wrapping_add_u64(self.agreed, 1)
+        } else {
+            self.agreed
+        };
         Tally { cases, agreed }
     }
 }
@@ -42,10 +51,14 @@ fn print_number(n: u64) {
     io::print_decimal(STDOUT_FILENO, n);
 }
 
-fn print_hex(bytes: &[u8]) {
+fn print_byte(b: u8) {
+    io::print_hex(STDOUT_FILENO, b as u64, 2);
+}
+
+fn print_bytes(bytes: &[u8]) {
     let mut k = 0;
     while k < bytes.len() {
-        io::print_hex(STDOUT_FILENO, bytes[k] as u64, 2);
+        print_byte(bytes[k]);
         k += 1;
     }
 }
@@ -68,8 +81,12 @@ fn print_answer(seen: Seen) {
 fn print_difference(version: u32, in_block: bool, bytes: &[u8], first: Seen, second: Seen) {
     print(b"  ");
     print_number(version as u64);
-    print(if in_block { b" b " } else { b" - " });
-    print_hex(bytes);
+    if in_block {
+        print(b" b ");
+    } else {
+        print(b" - ");
+    }
+    print_bytes(bytes);
     print(b" reader ");
     print_answer(first);
     print(b" second ");
@@ -80,7 +97,11 @@ fn print_difference(version: u32, in_block: bool, bytes: &[u8], first: Seen, sec
 fn print_tally(tally: Tally) {
     print(b": ");
     print_number(tally.cases);
-    print(if tally.cases == 1 { b" case, " } else { b" cases, " });
+    if tally.cases == 1 {
+        print(b" case, ");
+    } else {
+        print(b" cases, ");
+    }
     print_number(tally.agreed);
     print(b" agreed\n");
 }
@@ -91,7 +112,7 @@ fn are_values(answer: &[u8], from: usize, seen: Seen) -> bool {
     let mut k: usize = 1;
     while k < 16 {
         if k < seen.count {
-            let value = text::decimal(answer, at);
+            let value = text::read_decimal(answer, at);
             if !value.good || value.value != seen.values[k] {
                 return false;
             }
@@ -104,8 +125,8 @@ fn are_values(answer: &[u8], from: usize, seen: Seen) -> bool {
 
 // Whether an answer that is written in a case is this one.
 fn is_answer(answer: &[u8], seen: Seen) -> bool {
-    let number = text::decimal(answer, 0);
-    let offset = text::decimal(answer, number.next);
+    let number = text::read_decimal(answer, 0);
+    let offset = text::read_decimal(answer, number.next);
     if !number.good || number.value != seen.number as u64 {
         return false;
     }
@@ -122,7 +143,10 @@ fn is_answer(answer: &[u8], seen: Seen) -> bool {
 
 // Gives bytes to both readers. An empty answer stands for any.
 fn run(tally: Tally, version: u32, in_block: bool, bytes: &[u8], answer: &[u8]) -> Tally {
-    let first = flat::seen(reader::read_message(Version { number: version }, in_block, bytes), bytes);
+    let first = flat::seen(
+        reader::read_message(Version { number: version }, in_block, bytes),
+        bytes,
+    );
     let second = second_reader::read(version, in_block, bytes);
     let is_agreed = flat::same(first, second) && (answer.len() == 0 || is_answer(answer, first));
     if !is_agreed {
@@ -131,18 +155,22 @@ fn run(tally: Tally, version: u32, in_block: bool, bytes: &[u8], answer: &[u8]) 
     tally.with(is_agreed)
 }
 
+fn run_with_any_answer(tally: Tally, version: u32, in_block: bool, bytes: &[u8]) -> Tally {
+    run(tally, version, in_block, bytes, b"")
+}
+
 fn run_at_known_versions(tally: Tally, bytes: &[u8]) -> Tally {
-    let first = run(tally, 1, false, bytes, b"");
-    let outside = run(first, 2, false, bytes, b"");
-    run(outside, 2, true, bytes, b"")
+    let first = run_with_any_answer(tally, 1, false, bytes);
+    let outside = run_with_any_answer(first, 2, false, bytes);
+    run_with_any_answer(outside, 2, true, bytes)
 }
 
 fn run_at_every_version(tally: Tally, bytes: &[u8]) -> Tally {
     let mut sum = tally;
     let mut k: usize = 0;
     while k < VERSIONS.len() {
-        sum = run(sum, VERSIONS[k], false, bytes, b"");
-        sum = run(sum, VERSIONS[k], true, bytes, b"");
+        sum = run_with_any_answer(sum, VERSIONS[k], false, bytes);
+        sum = run_with_any_answer(sum, VERSIONS[k], true, bytes);
         k += 1;
     }
     sum
@@ -152,52 +180,55 @@ fn run_cut_short(tally: Tally, bytes: &[u8]) -> Tally {
     let mut sum = tally;
     let mut n = 0;
     while n < bytes.len() {
-        sum = run_at_known_versions(sum, &bytes[..n]);
+        sum = run_at_known_versions(sum, text::front(bytes, n));
         n += 1;
     }
     sum
 }
 
-fn run_longer(tally: Tally, message: &mut [u8], length: usize) -> Tally {
+fn run_longer(tally: Tally, message: &mut [u8], size: usize) -> Tally {
     let mut sum = tally;
     let mut k: usize = 0;
     while k < BYTES.len() {
-        text::put(message, length, BYTES[k]);
-        sum = run_at_known_versions(sum, text::front(message, std::num::wrapping_add_usize(length, 1)));
+        text::put(message, size, BYTES[k]);
+        sum = run_at_known_versions(
+            sum,
+            text::front(message, std::num::wrapping_add_usize(size, 1)),
+        );
         k += 1;
     }
     sum
 }
 
-fn run_changed_at(tally: Tally, message: &mut [u8], length: usize, at: usize) -> Tally {
+fn run_changed_at(tally: Tally, message: &mut [u8], size: usize, at: usize) -> Tally {
     let before = text::byte_at(message, at);
     let mut sum = tally;
     let mut k: usize = 0;
     while k < BYTES.len() {
         text::put(message, at, BYTES[k]);
-        sum = run_at_known_versions(sum, text::front(message, length));
+        sum = run_at_known_versions(sum, text::front(message, size));
         k += 1;
     }
     text::put(message, at, before);
     sum
 }
 
-fn run_changed(tally: Tally, message: &mut [u8], length: usize) -> Tally {
+fn run_changed(tally: Tally, message: &mut [u8], size: usize) -> Tally {
     let mut sum = tally;
     let mut at: usize = 0;
-    while at < length {
-        sum = run_changed_at(sum, message, length, at);
+    while at < size {
+        sum = run_changed_at(sum, message, size, at);
         at += 1;
     }
     sum
 }
 
-fn run_varied(tally: Tally, pass: u8, message: &mut [u8], length: usize) -> Tally {
+fn run_varied(tally: Tally, pass: u8, message: &mut [u8], size: usize) -> Tally {
     match pass {
-        EVERY_VERSION => run_at_every_version(tally, text::front(message, length)),
-        CUT_SHORT => run_cut_short(tally, text::front(message, length)),
-        LONGER => run_longer(tally, message, length),
-        CHANGED => run_changed(tally, message, length),
+        EVERY_VERSION => run_at_every_version(tally, text::front(message, size)),
+        CUT_SHORT => run_cut_short(tally, text::front(message, size)),
+        LONGER => run_longer(tally, message, size),
+        CHANGED => run_changed(tally, message, size),
         _ => tally,
     }
 }
@@ -208,20 +239,33 @@ fn run_line(tally: Tally, pass: u8, line: &[u8], message: &mut [u8]) -> Tally {
         return tally;
     }
     let is_varied = first == b'~';
-    let case = text::case(line, is_varied as usize, message);
+    let case = text::parse_case(line, is_varied as usize, message);
     if !case.good {
         print(b"  not a case: ");
         print(line);
         return tally.with(false);
     }
     if pass == AS_WRITTEN {
-        return run(tally, case.version, case.in_block, text::front(message, case.length), text::back(line, case.answer));
+        return run(
+            tally,
+            case.version,
+            case.in_block,
+            text::front(message, case.size),
+            text::back(line, case.answer),
+        );
     }
-    if is_varied { run_varied(tally, pass, message, case.length) } else { tally }
+    if is_varied {
+        run_varied(tally, pass, message, case.size)
+    } else {
+        tally
+    }
 }
 
 fn run_lines(pass: u8, lines: &[u8], message: &mut [u8]) -> Tally {
-    let mut tally = Tally { cases: 0, agreed: 0 };
+    let mut tally = Tally {
+        cases: 0,
+        agreed: 0,
+    };
     let mut at = 0;
     while at < lines.len() {
         let next = text::next_line(lines, at);
@@ -231,18 +275,13 @@ fn run_lines(pass: u8, lines: &[u8], message: &mut [u8]) -> Tally {
     tally
 }
 
-// The name of a group, from its first line.
-fn print_name(group: &[u8]) {
-    print(text::name(group));
-}
-
 fn run_groups(cases: &[u8], message: &mut [u8]) {
     let mut at = text::next_group(cases, 0);
     while at < cases.len() {
         let next = text::next_group(cases, text::next_line(cases, at));
         let group = &cases[at..next];
         let tally = run_lines(AS_WRITTEN, group, message);
-        print_name(group);
+        print(text::name(group));
         print_tally(tally);
         at = next;
     }
@@ -256,17 +295,25 @@ fn run_pass(pass: u8, name: &[u8], cases: &[u8], message: &mut [u8]) {
 
 fn run_all(cases: &[u8], message: &mut [u8]) {
     run_groups(cases, message);
-    run_pass(EVERY_VERSION, b"varied, every version and place", cases, message);
+    run_pass(
+        EVERY_VERSION,
+        b"varied, every version and place",
+        cases,
+        message,
+    );
     run_pass(CUT_SHORT, b"varied, cut short", cases, message);
     run_pass(LONGER, b"varied, a byte longer", cases, message);
     run_pass(CHANGED, b"varied, a byte changed", cases, message);
 }
 
-fn read_some(room: &mut [u8]) -> usize {
+fn read_some(room: &mut [u8]) -> usize
+    ensures { λ r. ⌜ r ≤ length (now (room .entry)) ⌝ }
+{
     let got = libc::read(STDIN_FILENO, room);
     io::count(got, room)
 }
 
+// Reads until there is no more input, or no more room.
 fn read_all(room: &mut [u8]) -> usize {
     let mut n = 0;
     while n < room.len() {
@@ -283,5 +330,8 @@ fn main() {
     let mut room = io::large_buffer();
     let mut message = io::large_buffer();
     let n = read_all(&mut room);
-    run_all(&room[..n], &mut message);
+    if n == room.len() {
+        print(b"no room for the cases\n");
+    }
+    run_all(text::front(&room, n), &mut message);
 }
