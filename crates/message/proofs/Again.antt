@@ -1,28 +1,28 @@
 -- Writing what was read: it is accepted, and spells the bytes that were read, over layouts. Assumes nothing.
 use Prim.Native.Nat.{ℕ, zero, suc, _+_, _-_, _*_, _/_, _%_, _<_, _≤_}
 use mathlib.Core.List.{List, [], _∷_, _++_, append-assoc, append-nil}
-use mathlib.Core.Bool.{Bool, true, false, cond, _||_, _&&_}
+use mathlib.Core.Bool.{Bool, true, false, cond, _||_}
 use mathlib.Core.Path.{_≡_, refl, sym, _∙_, ap, subst}
 use native.Mathlib.Omega.{arith}
 use borrow.Author.Tests.{le-leb, eqb-true, ne-eqb}
 use lib.ListN.{length, getD, take, drop, length-drop, length-append}
 use lib.Seq.{take-suc, drop-cons, take-add, drop-drop, getD-drop, getD-take, getD-append-seam}
-use lib.Dec.{eqb, leb}
+use lib.Dec.{eqb}
 use Rattle.wire.specs.declared.Cursor.{Cursor}
 use Rattle.wire.specs.declared.Cursor.the-variants.{At, Refused}
 use Rattle.wire.specs.declared.Field64.{Field64}
 use Rattle.wire.specs.declared.Field8.{Field8}
 use Rattle.wire.specs.declared.FieldSpan.{FieldSpan}
 use Rattle.wire.specs.Numbers.{be}
-use Rattle.wire.specs.Fields.{numberField, letterField, textField, bytesField, valueField, inRange, member, positionOf, untilZero}
+use Rattle.wire.specs.Fields.{numberField, letterField, textField, bytesField, valueField, member, positionOf, untilZero}
 use Rattle.wire.proofs.Cases.{letter-cases}
 use Rattle.wire.proofs.There.{number-inv, number-read, letter-inv, letter-read, text-inv, text-read, bytes-inv, bytes-read, until-before, until-zero}
 use Rattle.message.specs.Layout.{Field, Part, number, constant, letter, text, value, column, one, blockXid, groups, tuple, optionalTuple, readField, readGroup, readGroups, readPart, readFields, xidField, Optional, optional, columnEnd, groupsEnd, tupleEnd}
 use Rattle.message.specs.Messages.{largest}
-use Rattle.message.specs.Encode.{digits, cut, fromTo}
+use Rattle.message.specs.Encode.{digits, cut}
 use Rattle.message.specs.Write.{arity, arities}
-use Rattle.message.specs.Pieces.{Piece, placed, step, steps, bytesOf, tested, numberPiece, letterPiece, bytePiece, lengthPiece, textPiece, contentPiece, sectionPiece, xidPiece, tuplePiece, oldPieces, fieldPieces, groupPieces, partPieces, layoutPieces}
-use Rattle.message.proofs.Local.{Local, reached, groupEnd, column-local, field-local, group-local, groups-local, tuple-local}
+use Rattle.message.specs.Pieces.{Piece, placed, steps, bytesOf, tested, numberPiece, letterPiece, bytePiece, lengthPiece, textPiece, contentPiece, sectionPiece, xidPiece, tuplePiece, oldPieces, fieldPieces, groupPieces, partPieces, layoutPieces}
+use Rattle.message.proofs.Local.{Local, through, groupEnd, column-local, field-local, group-local, groups-local, tuple-local}
 use Rattle.message.proofs.Judged.{steps-append, bytes-append}
 
 -- FIELDS AND THEIR NUMBERS
@@ -171,7 +171,7 @@ module _ (xs : List ℕ) (small : (i : ℕ) → getD xs i 0 < 256) (short : leng
   value-again a e q =
       let f = numberField 4 0 0x7FFFFFFF 4 xs (At a) in
       let n = be 4 xs a in
-      let m = reached (λ (c : Cursor). bytesField (f .value) xs c .next) (λ n o. refl) (f .next) e q in
+      let m = through (λ (c : Cursor). bytesField (f .value) xs c .next) (λ n o. refl) (f .next) e q in
       let i = number-inv 4 0 0x7FFFFFFF 4 xs a (m .0) (m .1) in
       let v = number-read 4 0 0x7FFFFFFF 4 xs a (i .0) (i .1) in
       let j = bytes-inv xs (a + 4) n e (subst (λ (f : Field64). bytesField (f .value) xs (f .next) .next ≡ At e) v q) in
@@ -199,7 +199,7 @@ module _ (xs : List ℕ) (small : (i : ℕ) → getD xs i 0 < 256) (short : leng
   group-again [] tail a e h q = let p : a ≡ e = cc in subst (Again [] a) p (again-none a h)
   group-again (f ∷ fs) tail a e h q =
       let n = readField f xs (At a) .next in
-      let m = reached (groupEnd fs xs) (group-local fs .stays xs) n e q in
+      let m = through (groupEnd fs xs) (group-local fs .stays xs) n e q in
       let g = field-again f a (m .0) h (m .1) in
       rw (append-assoc (readField f xs (At a) .values) (readGroup fs xs n .values) tail, first f xs (At a) (readGroup fs xs n .values ++ tail), rest f xs (At a) (readGroup fs xs n .values ++ tail))
       (again-then (fieldPieces f xs (readField f xs (At a) .values)) (groupPieces fs xs (readGroup fs xs n .values ++ tail)) a (m .0) e g
@@ -211,8 +211,8 @@ module _ (xs : List ℕ) (small : (i : ℕ) → getD xs i 0 < 256) (short : leng
   groups-again b w low high between fs a e q =
       let n = numberField w low high 6 xs (At a) in
       let s = readGroup between xs (n .next) in
-      let m = reached (groupsEnd fs xs (n .value)) (groups-local fs (n .value) .stays xs) (s .next) e q in
-      let k = reached (groupEnd between xs) (group-local between .stays xs) (n .next) (m .0) (m .1) in
+      let m = through (groupsEnd fs xs (n .value)) (groups-local fs (n .value) .stays xs) (s .next) e q in
+      let k = through (groupEnd between xs) (group-local between .stays xs) (n .next) (m .0) (m .1) in
       go (k .0) (m .0) (k .1) (k .2) (m .2)
     where
       go :
@@ -280,7 +280,7 @@ module _ (xs : List ℕ) (small : (i : ℕ) → getD xs i 0 < 256) (short : leng
   layout-again b [] a e l q = let p : a ≡ e = cc in subst (Again [] a) p (again-none a l)
   layout-again b (p ∷ ps) a e l q =
       let c = readPart b p xs (At a) .next in
-      let m = reached (λ (d : Cursor). readFields b ps xs d .next) (layout-stays b ps) c e q in
+      let m = through (λ (d : Cursor). readFields b ps xs d .next) (layout-stays b ps) c e q in
       let f = part-again b p a (m .0) l (m .1) in
       again-then (partPieces b p xs (readPart b p xs (At a) .values)) (layoutPieces b ps xs (readFields b ps xs c .parts)) a (m .0) e f
       (subst (λ (c : Cursor). Again (layoutPieces b ps xs (readFields b ps xs c .parts)) (m .0) e) (sym (m .1)) (layout-again b ps (m .0) e (f .inside) (m .2)))

@@ -13,16 +13,16 @@ use Rattle.wire.specs.declared.Field64.{Field64}
 use Rattle.wire.specs.declared.Field8.{Field8}
 use Rattle.wire.specs.declared.FieldSpan.{FieldSpan}
 use Rattle.wire.specs.Fields.{numberField, letterField, valueField, inRange, member, positionOf}
-use Rattle.message.specs.Layout.{Field, Part, number, constant, letter, text, value, column, one, blockXid, groups, tuple, optionalTuple, readField, readGroup, readGroups, readPart, readFields, xidField, Optional, optional, columnEnd, groupsEnd, tupleEnd}
+use Rattle.message.specs.Layout.{Field, Part, number, constant, letter, text, value, column, one, blockXid, groups, tuple, optionalTuple, readField, readGroup, readPart, readFields, xidField, Optional, optional, columnEnd, groupsEnd, tupleEnd}
 use Rattle.message.specs.Messages.{largest}
 use Rattle.message.specs.Encode.{digits, cut, fromTo}
 use Rattle.message.specs.Write.{arity, arities}
-use Rattle.message.specs.Pieces.{Piece, bytesOf, numberPiece, letterPiece, contentPiece, sectionPiece, tuplePiece, xidBytes, xidPiece, fieldPieces, groupPieces, partPieces, layoutPieces}
+use Rattle.message.specs.Pieces.{Piece, bytesOf, numberPiece, letterPiece, sectionPiece, tuplePiece, xidBytes, xidPiece, fieldPieces, groupPieces, partPieces, layoutPieces}
 use Rattle.message.specs.Same.{Content, num, bytes}
 use Rattle.message.proofs.Local.{Local, cut-same, Agree, column-local, groups-local, tuple-local}
 use Rattle.message.proofs.Judged.{Good, AllGood, good-append, test-good, text-good, length-digits, length-cut, bytes-append}
 use Rattle.message.proofs.Again.{behind, first, rest}
-use Rattle.message.proofs.From.{From, from-length, from-first, from-next, from-cut, from-byte, from-agree, number-from, letter-from, text-from, bytes-from}
+use Rattle.message.proofs.From.{From, from-first, from-next, from-cut, from-byte, from-agree, number-from, letter-from, text-from, bytes-from}
 use Rattle.message.proofs.Says.{fieldSays, groupSays, partSays, layoutSays}
 
 -- LAYOUTS THAT CAN BE READ BACK

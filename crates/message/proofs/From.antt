@@ -1,13 +1,12 @@
 -- What is read where given bytes stand in a list from a place on. Assumes nothing.
 use Prim.Native.Nat.{ℕ, zero, suc, _+_, _-_, _*_, _/_, _%_, _^_, _<_, _≤_}
-use mathlib.Core.List.{List, [], _∷_, _++_, append-assoc, append-nil}
+use mathlib.Core.List.{List, [], _∷_, _++_, append-assoc}
 use mathlib.Core.Bool.{Bool, true, false, cond, _||_}
 use mathlib.Core.Path.{_≡_, refl, sym, _∙_, ap}
 use native.Mathlib.Nat.{pow-suc}
 use native.Mathlib.Omega.{arith}
-use borrow.Author.Tests.{le-leb}
 use lib.ListN.{length, getD, take, drop, length-drop, length-append, List·getD-append}
-use lib.Seq.{length-take-le, drop-drop, drop-append-seam, take-append-seam, getD-at, getD-drop, getD-take}
+use lib.Seq.{drop-drop, drop-append-seam, take-append-seam, getD-at, getD-drop, getD-take}
 use lib.Dec.{eqb}
 use Rattle.wire.specs.declared.Cursor.the-variants.{At}
 use Rattle.wire.specs.Numbers.{be}

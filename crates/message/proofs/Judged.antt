@@ -1,8 +1,8 @@
 -- Pieces that were judged good: each has the length that its judgement says. Assumes nothing.
-use Prim.Native.Nat.{ℕ, zero, suc, _+_, _-_, _/_, _%_, _<_, _≤_}
+use Prim.Native.Nat.{ℕ, zero, suc, _+_, _-_, _/_, _%_, _≤_}
 use mathlib.Core.List.{List, [], _∷_, _++_, append-assoc}
 use mathlib.Core.Bool.{Bool, true, false, cond}
-use mathlib.Core.Path.{_≡_, refl, sym, _∙_, ap}
+use mathlib.Core.Path.{_≡_, refl, _∙_, ap}
 use native.Mathlib.Omega.{arith}
 use borrow.Author.Tests.{leb-true}
 use lib.ListN.{length, getD, take, drop, length-drop, length-append}
@@ -18,8 +18,8 @@ use Rattle.message.specs.Kinds.{letterOf, layout}
 use Rattle.message.specs.Messages.{largest}
 use Rattle.message.specs.Encode.{digits, cut, fromTo, kindOfMessage, partsOf}
 use Rattle.message.specs.Write.{arity, arities}
-use Rattle.message.specs.Pieces.{Piece, placed, step, steps, bytesOf, tested, numberPiece, letterPiece, bytePiece, lengthPiece, textPiece, textJudgement, contentPiece, sectionPiece, xidPiece, tuplePiece, oldPieces, fieldPieces, groupPieces, partPieces, layoutPieces, messagePieces}
-use Rattle.message.proofs.Local.{Local, reached, column-local, groups-local, tuple-local}
+use Rattle.message.specs.Pieces.{Piece, placed, step, steps, bytesOf, tested, numberPiece, letterPiece, bytePiece, lengthPiece, textPiece, textJudgement, contentPiece, sectionPiece, xidPiece, tuplePiece, fieldPieces, groupPieces, partPieces, layoutPieces, messagePieces}
+use Rattle.message.proofs.Local.{Local, through, column-local, groups-local, tuple-local}
 
 -- THE JUDGEMENTS
 
@@ -154,7 +154,7 @@ bytes-append (p ∷ ps) qs = rw (bytes-append ps qs, append-assoc (p .bytes) (by
 pub steps-end : (ps : List Piece) (a e : ℕ) → AllSound ps → a ≤ largest → steps ps (At a) ≡ At e → (e ≡ a + length (bytesOf ps)) × (e ≤ largest)
 steps-end [] a e s h q = let p : a ≡ e = cc in (omega arith, omega arith)
 steps-end (p ∷ ps) a e s h q =
-    let m = reached (steps ps) (steps-stay ps) (step p (At a)) e q in
+    let m = through (steps ps) (steps-stay ps) (step p (At a)) e q in
     let k = placed-good a (p .start) (p .judgement) (m .0) (m .1) in
     let l : length (p .bytes) ≡ k .0 - p .start = s .0 (k .0) (k .1) in
     let r = steps-end ps (m .0) e (s .1) (k .4) (m .2) in
@@ -184,6 +184,6 @@ good-append (p ∷ ps) qs g = let r = good-append ps qs (g .1) in ((g .0, r .0),
 pub steps-good : (ps : List Piece) (a e : ℕ) → steps ps (At a) ≡ At e → AllGood ps
 steps-good [] a e q = tt
 steps-good (p ∷ ps) a e q =
-    let m = reached (steps ps) (steps-stay ps) (step p (At a)) e q in
+    let m = through (steps ps) (steps-stay ps) (step p (At a)) e q in
     let k = placed-good a (p .start) (p .judgement) (m .0) (m .1) in
     ((k .0, k .1, k .2), steps-good ps (m .0) e (m .2))

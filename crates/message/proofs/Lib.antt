@@ -1,5 +1,6 @@
 pub mod Letters
 pub mod Versions
+pub mod Accepted
 pub mod Parts
 pub mod Local
 pub mod Judged

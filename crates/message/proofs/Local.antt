@@ -4,7 +4,7 @@ use mathlib.Core.List.{List, [], _∷_}
 use mathlib.Core.Bool.{Bool, true, false, cond, _||_}
 use mathlib.Core.Path.{_≡_, refl, sym, _∙_, ap}
 use native.Mathlib.Omega.{arith}
-use lib.ListN.{length, getD, take, drop, length-drop}
+use lib.ListN.{length, getD, drop, length-drop}
 use lib.Seq.{getD-drop, getD-take, length-take-le, ext-getD}
 use lib.Dec.{eqb}
 use Rattle.wire.specs.declared.Cursor.{Cursor}
@@ -16,6 +16,7 @@ use Rattle.wire.specs.Fields.{numberField, letterField, textField, bytesField, 
 use Rattle.wire.proofs.There.{no, number-inv, number-read, number-off, letter-inv, letter-read, letter-off, text-inv, text-read, text-off, bytes-inv, bytes-read, bytes-off, until-before, until-zero, until-is}
 use Rattle.message.specs.Layout.{Field, number, constant, letter, text, value, column, readField, readGroup, times, groupsEnd, tupleEnd, columnEnd, columnLetters}
 use Rattle.message.specs.Encode.{cut}
+use Rattle.message.proofs.Accepted.{reached}
 
 -- ys has from b on the n bytes that xs has from a on
 pub record Agree (xs : List ℕ) (a : ℕ) (ys : List ℕ) (b n : ℕ) : Type 0 where
@@ -60,11 +61,10 @@ pub record Local (F : List ℕ → Cursor → Cursor) : Type 0 where
   pub inside : (xs : List ℕ) (a e : ℕ) → F xs (At a) ≡ At e → e - a ≤ length xs - a
   pub moves : (xs ys : List ℕ) (a b e : ℕ) → F xs (At a) ≡ At e → Agree xs a ys b (e - a) → F ys (At b) ≡ At (b + (e - a))
 
--- a cursor from which reading gets to a place is at a place
+-- what gets to a place gets there through a place
 module _ (G : Cursor → Cursor) (stays : (n o : ℕ) → G (Refused n o) ≡ Refused n o) where
-  pub reached : (c : Cursor) (e : ℕ) → G c ≡ At e → (m : ℕ) × (c ≡ At m) × (G (At m) ≡ At e)
-  reached (At m) e q = (m, refl, q)
-  reached (Refused n o) e q = no (stays n o) q
+  pub through : (c : Cursor) (e : ℕ) → G c ≡ At e → (m : ℕ) × (c ≡ At m) × (G (At m) ≡ At e)
+  through c e q = let r = reached G stays c q in (r .0, r .1, rw (r .1) at q)
 
 -- what goes on from a cursor is refused behind where the cursor came from
 late-by :
@@ -91,14 +91,14 @@ local-then F G f g =
     record {
       stays = λ xs n o. ap (G xs) (f .stays xs n o) ∙ g .stays xs n o;
       ahead = λ xs a e q.
-        let m = reached (G xs) (g .stays xs) (F xs (At a)) e q in
+        let m = through (G xs) (g .stays xs) (F xs (At a)) e q in
         omega (arith, f .ahead xs a (m .0) (m .1), g .ahead xs (m .0) e (m .2));
       late = λ xs a n o q. late-by (G xs) (g .stays xs) (g .late xs) a (F xs (At a)) (f .ahead xs a) (f .late xs a) n o q;
       inside = λ xs a e q.
-        let m = reached (G xs) (g .stays xs) (F xs (At a)) e q in
+        let m = through (G xs) (g .stays xs) (F xs (At a)) e q in
         omega (arith, f .ahead xs a (m .0) (m .1), g .ahead xs (m .0) e (m .2), f .inside xs a (m .0) (m .1), g .inside xs (m .0) e (m .2));
       moves = λ xs ys a b e q h.
-        let m = reached (G xs) (g .stays xs) (F xs (At a)) e q in
+        let m = through (G xs) (g .stays xs) (F xs (At a)) e q in
         let p : a ≤ m .0 = f .ahead xs a (m .0) (m .1) in
         let r : m .0 ≤ e = g .ahead xs (m .0) e (m .2) in
         let s : b + (m .0 - a) + (e - m .0) ≡ b + (e - a) = omega arith in
@@ -201,18 +201,18 @@ module _ (w low high n : ℕ) (G : ℕ → List ℕ → Cursor → Cursor) (g : 
         stays = λ xs n o. g 0 .stays xs n o;
         ahead = λ xs a e q.
           let k = numberField w low high n xs (At a) .value in
-          let m = reached (G k xs) (g k .stays xs) (numberField w low high n xs (At a) .next) e q in
+          let m = through (G k xs) (g k .stays xs) (numberField w low high n xs (At a) .next) e q in
           omega (arith, number-inv w low high n xs a (m .0) (m .1) .2, g k .ahead xs (m .0) e (m .2));
         late = λ xs a m o q.
           let k = numberField w low high n xs (At a) .value in
           late-by (G k xs) (g k .stays xs) (g k .late xs) a (numberField w low high n xs (At a) .next) (number-local w low high n .ahead xs a) (number-local w low high n .late xs a) m o q;
         inside = λ xs a e q.
           let k = numberField w low high n xs (At a) .value in
-          let m = reached (G k xs) (g k .stays xs) (numberField w low high n xs (At a) .next) e q in
+          let m = through (G k xs) (g k .stays xs) (numberField w low high n xs (At a) .next) e q in
           omega (arith, number-inv w low high n xs a (m .0) (m .1) .0, number-inv w low high n xs a (m .0) (m .1) .2, g k .ahead xs (m .0) e (m .2), g k .inside xs (m .0) e (m .2));
         moves = λ xs ys a b e q h.
           let k = numberField w low high n xs (At a) .value in
-          let m = reached (G k xs) (g k .stays xs) (numberField w low high n xs (At a) .next) e q in
+          let m = through (G k xs) (g k .stays xs) (numberField w low high n xs (At a) .next) e q in
           let p : a ≤ m .0 = omega (arith, number-inv w low high n xs a (m .0) (m .1) .2) in
           let r : m .0 ≤ e = g k .ahead xs (m .0) e (m .2) in
           let s : b + (m .0 - a) + (e - m .0) ≡ b + (e - a) = omega arith in
@@ -239,18 +239,18 @@ module _ (set : List ℕ) (G : ℕ → List ℕ → Cursor → Cursor) (g : (k :
         stays = λ xs n o. g 0 .stays xs n o;
         ahead = λ xs a e q.
           let k = letterField set xs (At a) .value in
-          let m = reached (G k xs) (g k .stays xs) (letterField set xs (At a) .next) e q in
+          let m = through (G k xs) (g k .stays xs) (letterField set xs (At a) .next) e q in
           omega (arith, letter-inv set xs a (m .0) (m .1) .2, g k .ahead xs (m .0) e (m .2));
         late = λ xs a m o q.
           let k = letterField set xs (At a) .value in
           late-by (G k xs) (g k .stays xs) (g k .late xs) a (letterField set xs (At a) .next) (letter-local set .ahead xs a) (letter-local set .late xs a) m o q;
         inside = λ xs a e q.
           let k = letterField set xs (At a) .value in
-          let m = reached (G k xs) (g k .stays xs) (letterField set xs (At a) .next) e q in
+          let m = through (G k xs) (g k .stays xs) (letterField set xs (At a) .next) e q in
           omega (arith, letter-inv set xs a (m .0) (m .1) .0, letter-inv set xs a (m .0) (m .1) .2, g k .ahead xs (m .0) e (m .2), g k .inside xs (m .0) e (m .2));
         moves = λ xs ys a b e q h.
           let k = letterField set xs (At a) .value in
-          let m = reached (G k xs) (g k .stays xs) (letterField set xs (At a) .next) e q in
+          let m = through (G k xs) (g k .stays xs) (letterField set xs (At a) .next) e q in
           let i = letter-inv set xs a (m .0) (m .1) in
           let p : m .0 ≡ a + 1 = i .2 in
           let r : m .0 ≤ e = g k .ahead xs (m .0) e (m .2) in

@@ -1,90 +1,62 @@
 -- Both round trips of a message, from those of its layout. Assumes nothing.
 use Prim.Native.Nat.{ℕ, _+_, _-_, _<_, _≤_}
-use mathlib.Core.List.{List, [], _∷_, _++_, append-nil}
+use mathlib.Core.List.{List, [], _∷_, append-nil}
 use mathlib.Core.Bool.{Bool, true, false, cond, not}
-use mathlib.Core.Option.{Option, none, some}
+use mathlib.Core.Option.{some}
 use mathlib.Core.Path.{_≡_, refl, sym, _∙_, ap, subst}
 use native.Mathlib.Omega.{arith}
-use borrow.Author.Tests.{eq-eqb, ne-eqb, eqb-true, eqb-false, le-ltb, ltb-false}
-use lib.ListN.{length, getD, take, drop, length-drop}
+use borrow.Author.Tests.{eq-eqb, ne-eqb, le-ltb}
+use lib.ListN.{length, getD, drop, length-drop}
 use lib.Seq.{take-all, drop-cons}
-use lib.Dec.{eqb, ltb}
 use Rattle.wire.specs.declared.Cursor.{Cursor}
 use Rattle.wire.specs.declared.Cursor.the-variants.{At, Refused}
 use Rattle.wire.specs.Fields.{member}
 use Rattle.message.specs.declared.Version.{Version}
 use Rattle.message.specs.declared.Message.{Message}
-use Rattle.message.specs.declared.Read.{Read}
 use Rattle.message.specs.declared.Read.the-variants as answer
 use Rattle.message.specs.Layout.{readFields}
 use Rattle.message.specs.Kinds.{Kind, begin, commit, origin, relation, type, insert, update, delete, truncate, message, streamStart, streamStop, streamCommit, streamAbort, letterOf, layout, kindOf}
 use Rattle.message.specs.Versions.{versionAllows, versionHas}
-use Rattle.message.specs.Messages.{largest, refuse, finished, settled, messageOf, readKind, readNamed, readMessage}
-use Rattle.message.specs.Encode.{kindOfMessage, partsOf, cut}
+use Rattle.message.specs.Messages.{largest, messageOf, readKind, readMessage}
+use Rattle.message.specs.Encode.{kindOfMessage, partsOf}
 use Rattle.message.specs.Write.{Writing, bytes, refused, writeMessage}
-use Rattle.message.specs.Pieces.{Piece, placed, steps, bytesOf, bytePiece, layoutPieces, messagePieces, outcome, fieldsWritten, writeShort}
-use Rattle.message.specs.Same.{SameMessage, contents}
+use Rattle.message.specs.Pieces.{placed, steps, bytesOf, layoutPieces, messagePieces, outcome, fieldsWritten, writeShort}
+use Rattle.message.specs.Same.{SameMessage}
 use Rattle.message.proofs.Letters.{of-letter, letter-of}
+use Rattle.message.proofs.Accepted.{accepted}
 use Rattle.message.proofs.Parts.{kind-back, parts-back}
 use Rattle.message.proofs.Judged.{AllGood, steps-good, message-end}
 use Rattle.message.proofs.Short.{short}
 use Rattle.message.proofs.Again.{Again, layout-again}
-use Rattle.message.proofs.From.{From}
-use Rattle.message.proofs.Says.{says, layoutSays}
+use Rattle.message.proofs.Says.{says}
 use Rattle.message.proofs.Back.{Fine, layout-reads}
 
 -- WRITE AFTER READ
 
--- a test that was passed
-read-passed : (t : Bool) (n o : ℕ) (r : Read) (m : Message) → cond t (refuse n o) r ≡ answer.Message m → (t ≡ false) × (r ≡ answer.Message m)
-read-passed true n o r m q = let z : _≡_ {A = ℕ} 0 1 = cc in absurd (omega arith)
-read-passed false n o r m q = (refl, q)
-
--- a message that was read whole
-ended : (xs : List ℕ) (k m : Message) (c : Cursor) → settled (finished xs c) k ≡ answer.Message m → (c ≡ At (length xs)) × (m ≡ k)
-ended xs k m (Refused n o) q = let z : _≡_ {A = ℕ} 0 1 = cc in absurd (omega arith)
-ended xs k m (At e) q = go (eqb e (length xs)) refl q
-  where
-    go : (t : Bool) → eqb e (length xs) ≡ t → settled (cond t (At e) (Refused 5 e)) k ≡ answer.Message m → (At e ≡ At (length xs)) × (m ≡ k)
-    go true t q = (ap At (eqb-true e (length xs) t), (cc))
-    go false t q = let z : _≡_ {A = ℕ} 0 1 = cc in absurd (omega arith)
-
-module _ (b : Bool) (xs : List ℕ) (small : (i : ℕ) → getD xs i 0 < 256) (there : 1 ≤ length xs) (short : length xs ≤ largest) where
-  -- the letter and the fields that were read are written as they stand
-  spelled : (m : Message) (k : Kind) (v : List (List ℕ)) → kindOfMessage m ≡ k → partsOf m ≡ v → getD xs 0 0 ≡ letterOf k → Again xs small short (layoutPieces b (layout k) xs v) 1 (length xs) → fieldsWritten b m xs ≡ bytes xs
+-- the letter and the fields that were read are written as they stand
+module _ (b : Bool) (xs : List ℕ) (small : (i : ℕ) → getD xs i 0 < 256) (there : 1 ≤ length xs) (limit : length xs ≤ largest) where
+  spelled :
+      (m : Message) (k : Kind) (v : List (List ℕ)) → kindOfMessage m ≡ k → partsOf m ≡ v → getD xs 0 0 ≡ letterOf k
+      → Again xs small limit (layoutPieces b (layout k) xs v) 1 (length xs) → fieldsWritten b m xs ≡ bytes xs
   unfolding fieldsWritten placed
   spelled m k v p q l g =
       let n : length (drop 1 xs) ≤ length xs - 1 = simp length-drop (omega arith) in
       rw (p, q, g .accepted, g .spells, take-all (length xs - 1) (drop 1 xs) n, ← l) (ap bytes (sym (drop-cons xs 0 0 there)))
 
-  kind-written : (k : Kind) (m : Message) → getD xs 0 0 ≡ letterOf k → readKind k b xs ≡ answer.Message m → (kindOfMessage m ≡ k) × (fieldsWritten b m xs ≡ bytes xs)
-  unfolding readKind
-  kind-written k m l q =
-      let r = readFields b (layout k) xs (At 1) in
-      let e = ended xs (messageOf k (r .parts)) m (r .next) q in
-      let p : kindOfMessage m ≡ k = ap kindOfMessage (e .1) ∙ kind-back k (r .parts) in
-      (p, spelled m k (r .parts) p (ap partsOf (e .1) ∙ parts-back k b xs) l (layout-again xs small short b (layout k) 1 (length xs) there (e .0)))
-
-  named-written :
-      (k : Option Kind) (m : Message) → kindOf (getD xs 0 0) ≡ k → readNamed k b xs ≡ answer.Message m
-      → (kindOf (getD xs 0 0) ≡ some (kindOfMessage m)) × (fieldsWritten b m xs ≡ bytes xs)
-  named-written none m e q = let z : _≡_ {A = ℕ} 0 1 = cc in absurd (omega arith)
-  named-written (some k) m e q =
-      let w = kind-written k m (letter-of (getD xs 0 0) k e) q in
-      (e ∙ ap some (sym (w .0)), w .1)
-
 pub write-after-read :
     (v : Version) (b : Bool) (xs : List ℕ) → ((i : ℕ) → getD xs i 0 < 256) → (m : Message)
     → readMessage v b xs ≡ answer.Message m → writeMessage v b m xs ≡ bytes xs
-unfolding readMessage writeShort
+unfolding writeShort
 write-after-read v b xs small m q =
-    let p₁ = read-passed (not (versionAllows v b)) 1 0 _ m q in
-    let p₂ = read-passed (ltb largest (length xs)) 6 0 _ m (p₁ .1) in
-    let p₃ = read-passed (eqb (length xs) 0) 2 0 _ m (p₂ .1) in
-    let p₄ = read-passed (not (versionHas v (kindOf (getD xs 0 0)))) 3 0 _ m (p₃ .1) in
-    let there : 1 ≤ length xs = omega (arith, eqb-false (length xs) 0 (p₃ .0)) in
-    let w = named-written b xs small there (ltb-false largest (length xs) (p₂ .0)) (kindOf (getD xs 0 0)) m refl (p₄ .1) in
-    short v b m xs ∙ rw (p₁ .0, ← w .0, p₄ .0) (w .1)
+    let a = accepted v b xs m q in
+    let k = a .kind in
+    let r = readFields b (layout k) xs (At 1) in
+    let there : 1 ≤ length xs = omega (arith, a .there) in
+    let p : kindOfMessage m ≡ k = ap kindOfMessage (a .message) ∙ kind-back k (r .parts) in
+    short v b m xs
+    ∙ rw (a .allowed, p, a .has)
+      (spelled b xs small there (a .short) m k (r .parts) p (ap partsOf (a .message) ∙ parts-back k b xs) (letter-of (getD xs 0 0) k (a .letter))
+       (layout-again xs small (a .short) b (layout k) 1 (length xs) there (a .ends)))
 
 -- READ AFTER WRITE
 

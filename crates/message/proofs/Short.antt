@@ -14,17 +14,17 @@ use lib.Dec.{eqb, leb}
 use Rattle.wire.specs.declared.Cursor.{Cursor}
 use Rattle.wire.specs.declared.Cursor.the-variants.{At, Refused}
 use Rattle.wire.specs.Fields.{inRange, member, numberField, letterField, textField, bytesField, valueField}
-use Rattle.wire.proofs.There.{no, number-off, letter-off, text-off, bytes-off}
+use Rattle.wire.proofs.There.{number-off, letter-off, text-off, bytes-off}
 use Rattle.message.specs.declared.Version.{Version}
 use Rattle.message.specs.declared.Message.{Message}
-use Rattle.message.specs.Layout.{Field, Part, number, constant, letter, text, value, column, one, blockXid, groups, tuple, optionalTuple, columnLetters, columnEnd, mostColumns, readField, times, groupsEnd, tupleEnd}
+use Rattle.message.specs.Layout.{Field, Part, number, constant, letter, text, value, column, one, blockXid, groups, tuple, optionalTuple, columnLetters, columnEnd, mostColumns, readField, groupsEnd, tupleEnd}
 use Rattle.message.specs.Kinds.{letterOf, layout}
 use Rattle.message.specs.Versions.{versionAllows, versionHas}
 use Rattle.message.specs.Messages.{largest}
 use Rattle.message.specs.Encode.{digits, cut, fromTo, kindOfMessage, partsOf}
 use Rattle.message.specs.Write.{Writing, bytes, refused, soFar, good, bad, Copy, copy, copied, copyValue, copyColumn, copyField, copyGroup, copyGroups, copyTuple, writeNumber, writeLetter, writeText, writeBytes, writeField, writeGroup, writePart, writeFields, writeMessage, arity, arities}
-use Rattle.message.specs.Pieces.{Piece, placed, step, steps, bytesOf, piece, tested, numberPiece, letterPiece, bytePiece, lengthPiece, textPiece, textJudgement, contentPiece, sectionPiece, xidPiece, tuplePiece, oldPieces, fieldPieces, groupPieces, partPieces, layoutPieces, messagePieces, outcome, fieldsWritten, writeShort}
-use Rattle.message.proofs.Local.{Local, local-none, local-then, groupEnd, number-local, letter-local, text-local, bytes-local, value-local, column-local, field-local, group-local, groups-local, tuple-local}
+use Rattle.message.specs.Pieces.{Piece, placed, steps, bytesOf, piece, tested, numberPiece, letterPiece, lengthPiece, textPiece, contentPiece, sectionPiece, xidPiece, tuplePiece, fieldPieces, groupPieces, partPieces, layoutPieces, outcome, fieldsWritten, writeShort}
+use Rattle.message.proofs.Local.{Local, local-none, local-then, groupEnd, number-local, letter-local, text-local, bytes-local, value-local, column-local, tuple-local}
 use Rattle.message.proofs.Judged.{length-digits, length-cut, AllSound, steps-stay, steps-append, bytes-append, steps-end, field-sound, group-sound, part-sound}
 
 -- ONE PIECE AFTER ANOTHER

@@ -5,7 +5,6 @@ use mathlib.Core.Path.{_≡_}
 use mir.Syntax.{w64}
 use mir.Val.{ofZ}
 use lib.IntN.{ℤ}
-use Rattle.wire.specs.declared.Cursor.{Cursor}
 use Rattle.wire.specs.declared.Cursor.the-variants.{At}
 use Rattle.wire.specs.declared.Span.{Span}
 use Rattle.message.specs.declared.OldTuple.{OldTuple}
@@ -13,7 +12,7 @@ use Rattle.message.specs.declared.OldTuple.the-variants.{Nothing, Key, F
 use Rattle.message.specs.declared.Message.{Message}
 use Rattle.message.specs.declared.Message.the-variants as a
 use Rattle.message.specs.Layout.{groupsEnd, tupleEnd}
-use Rattle.message.specs.Kinds.{Kind, columnFields, id}
+use Rattle.message.specs.Kinds.{columnFields, id}
 use Rattle.message.specs.Encode.{cut, fromTo, kindOfMessage}
 
 -- a number; the bytes of a text, a content, a tuple, a Relation's columns or a Truncate's OIDs

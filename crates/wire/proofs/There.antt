@@ -4,9 +4,9 @@ use mathlib.Core.List.{List, [], _∷_}
 use mathlib.Core.Bool.{Bool, true, false, cond}
 use mathlib.Core.Path.{_≡_, refl, sym, ap}
 use native.Mathlib.Omega.{arith}
-use borrow.Author.Tests.{le-leb, lt-ltb, leb-true, ltb-true, eqb-true, eqb-false, ne-eqb}
+use borrow.Author.Tests.{le-leb, lt-ltb, leb-true, eqb-true, eqb-false, ne-eqb}
 use lib.ListN.{length, getD, drop}
-use lib.Dec.{eqb, leb, ltb}
+use lib.Dec.{eqb, leb}
 use Rattle.wire.specs.declared.Word.the-variants.{Value, Short}
 use Rattle.wire.specs.declared.Cursor.{Cursor}
 use Rattle.wire.specs.declared.Cursor.the-variants.{At, Refused}
@@ -14,7 +14,7 @@ use Rattle.wire.specs.declared.Field64.{Field64}
 use Rattle.wire.specs.declared.Field8.{Field8}
 use Rattle.wire.specs.declared.FieldSpan.{FieldSpan}
 use Rattle.wire.specs.Numbers.{be, wordAt}
-use Rattle.wire.specs.Fields.{numberField, letterField, textField, bytesField, untilZero, member, inRange, judged, noNumber, noLetter, noSpan}
+use Rattle.wire.specs.Fields.{numberField, letterField, textField, bytesField, untilZero, member, inRange, judged, noNumber}
 use Rattle.wire.proofs.Cases.{number-cases, letter-cases, text-cases, bytes-cases}
 use Rattle.wire.proofs.Fields.{letter-good}
 

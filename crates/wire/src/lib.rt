@@ -112,22 +112,37 @@ fn number(s: &[u8], c: Cursor, width: usize, low: u64, high: u64, refusal: u8) -
     ensures { λ r. ⌜ r ≡ numberField width low high refusal (now (s .entry)) c ⌝ }
 {
     match c {
-        Cursor::Refused { number: _, offset: _ } => Field64 { value: 0, next: c },
+        Cursor::Refused {
+            number: _,
+            offset: _,
+        } => Field64 { value: 0, next: c },
         Cursor::At(at) => {
             let w = word_at(s, at, width);
             match w {
                 Word::Short => Field64 {
                     value: 0,
-                    next: Cursor::Refused { number: Refusal::SHORT, offset: at },
+                    next: Cursor::Refused {
+                        number: Refusal::SHORT,
+                        offset: at,
+                    },
                 },
                 Word::Value(v) => {
                     if low <= v {
                         if v <= high {
                             let end = at + width;
-                            return Field64 { value: v, next: Cursor::At(end) };
+                            return Field64 {
+                                value: v,
+                                next: Cursor::At(end),
+                            };
                         }
                     }
-                    Field64 { value: 0, next: Cursor::Refused { number: refusal, offset: at } }
+                    Field64 {
+                        value: 0,
+                        next: Cursor::Refused {
+                            number: refusal,
+                            offset: at,
+                        },
+                    }
                 }
             }
         }
@@ -202,7 +217,10 @@ pub fn position(c: Cursor) -> usize
 {
     match c {
         Cursor::At(at) => at,
-        Cursor::Refused { number: _, offset: _ } => 0,
+        Cursor::Refused {
+            number: _,
+            offset: _,
+        } => 0,
     }
 }
 
@@ -225,17 +243,35 @@ pub fn letter(s: &[u8], c: Cursor, set: &[u8]) -> Field8
     ensures { λ r. ⌜ r ≡ letterField (now (set .entry)) (now (s .entry)) c ⌝ }
 {
     match c {
-        Cursor::Refused { number: _, offset: _ } => Field8 { value: 0, next: c },
+        Cursor::Refused {
+            number: _,
+            offset: _,
+        } => Field8 { value: 0, next: c },
         Cursor::At(at) => {
             if at < s.len() {
                 let b = s[at];
                 if contains(set, b) {
-                    Field8 { value: b, next: Cursor::At(at + 1) }
+                    Field8 {
+                        value: b,
+                        next: Cursor::At(at + 1),
+                    }
                 } else {
-                    Field8 { value: 0, next: Cursor::Refused { number: Refusal::FIELD, offset: at } }
+                    Field8 {
+                        value: 0,
+                        next: Cursor::Refused {
+                            number: Refusal::FIELD,
+                            offset: at,
+                        },
+                    }
                 }
             } else {
-                Field8 { value: 0, next: Cursor::Refused { number: Refusal::SHORT, offset: at } }
+                Field8 {
+                    value: 0,
+                    next: Cursor::Refused {
+                        number: Refusal::SHORT,
+                        offset: at,
+                    },
+                }
             }
         }
     }
@@ -260,17 +296,35 @@ pub fn text(s: &[u8], c: Cursor) -> FieldSpan
     ensures { λ r. ⌜ r ≡ textField (now (s .entry)) c ⌝ }
 {
     match c {
-        Cursor::Refused { number: _, offset: _ } => FieldSpan { value: Span { start: 0, length: 0 }, next: c },
+        Cursor::Refused {
+            number: _,
+            offset: _,
+        } => FieldSpan {
+            value: Span {
+                start: 0,
+                length: 0,
+            },
+            next: c,
+        },
         Cursor::At(at) => {
             let end = zero_from(s, at);
             if end < s.len() {
                 let length = end - at;
                 let next = end + 1;
-                FieldSpan { value: Span { start: at, length }, next: Cursor::At(next) }
+                FieldSpan {
+                    value: Span { start: at, length },
+                    next: Cursor::At(next),
+                }
             } else {
                 FieldSpan {
-                    value: Span { start: 0, length: 0 },
-                    next: Cursor::Refused { number: Refusal::SHORT, offset: at },
+                    value: Span {
+                        start: 0,
+                        length: 0,
+                    },
+                    next: Cursor::Refused {
+                        number: Refusal::SHORT,
+                        offset: at,
+                    },
                 }
             }
         }
@@ -282,17 +336,38 @@ pub fn bytes(s: &[u8], c: Cursor, n: usize) -> FieldSpan
     ensures { λ r. ⌜ r ≡ bytesField n (now (s .entry)) c ⌝ }
 {
     match c {
-        Cursor::Refused { number: _, offset: _ } => FieldSpan { value: Span { start: 0, length: 0 }, next: c },
+        Cursor::Refused {
+            number: _,
+            offset: _,
+        } => FieldSpan {
+            value: Span {
+                start: 0,
+                length: 0,
+            },
+            next: c,
+        },
         Cursor::At(at) => {
             if at <= s.len() {
                 if n <= s.len() - at {
                     let end = at + n;
-                    return FieldSpan { value: Span { start: at, length: n }, next: Cursor::At(end) };
+                    return FieldSpan {
+                        value: Span {
+                            start: at,
+                            length: n,
+                        },
+                        next: Cursor::At(end),
+                    };
                 }
             }
             FieldSpan {
-                value: Span { start: 0, length: 0 },
-                next: Cursor::Refused { number: Refusal::SHORT, offset: at },
+                value: Span {
+                    start: 0,
+                    length: 0,
+                },
+                next: Cursor::Refused {
+                    number: Refusal::SHORT,
+                    offset: at,
+                },
             }
         }
     }

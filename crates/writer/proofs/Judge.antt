@@ -1,7 +1,7 @@
 -- The cases of a judgement and its place. Assumes nothing.
 use Prim.Native.Nat.{ℕ, _+_, _-_, _<_, _≤_}
 use mathlib.Core.List.{List}
-use mathlib.Core.Bool.{Bool, true, false, cond}
+use mathlib.Core.Bool.{Bool, true, false}
 use mathlib.Core.Path.{_≡_, refl, sym, _∙_}
 use native.Mathlib.Omega.{arith}
 use borrow.Author.Tests.{le-leb, lt-leb, leb-true, leb-false}
@@ -13,7 +13,7 @@ use Rattle.wire.specs.declared.Cursor.the-variants.{At, Refused}
 use Rattle.wire.specs.Fields.{inRange, member, positionOf}
 use Rattle.message.specs.Messages.{largest}
 use Rattle.message.specs.Encode.{cut, fromTo}
-use Rattle.message.specs.Pieces.{placed, tested, textJudgement}
+use Rattle.message.specs.Pieces.{placed, textJudgement}
 
 -- a judgement's place
 module _ (at start e : ℕ) {c : Cursor} {n : ℕ} (q : c ≡ At e) (p : n ≡ e - start) where

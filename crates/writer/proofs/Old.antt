@@ -15,7 +15,7 @@ use Rattle.message.specs.declared.Message.the-variants as a
 use Rattle.message.specs.Layout.{tupleEnd}
 use Rattle.message.specs.Kinds.{keyOrOld}
 use Rattle.message.specs.Encode.{digits, fromTo, oldNumbers}
-use Rattle.message.specs.Pieces.{Piece, steps, bytesOf, messagePieces, xidPiece, numberPiece, bytePiece, tuplePiece, oldPieces, xidBytes}
+use Rattle.message.specs.Pieces.{Piece, steps, bytesOf, messagePieces, bytePiece, tuplePiece, oldPieces, xidBytes}
 use Rattle.message.proofs.Judged.{steps-append, bytes-append}
 use Rattle.writer.specs.Store.{Spot, spot, put, Stored, oldEnd, oldAdvanced, oldBytes}
 use Rattle.writer.proofs.Stores.{put-both, puts, puts-append, stored-all}

@@ -1,7 +1,6 @@
 use Rattle.writer.specs.Store.{spot}
 use Rattle.message.specs.Encode.{cut}
 use mathlib.Core.List.{[], _∷_}
-use lib.ListN.{length-append}
 use native.Mathlib.Omega.{arith}
 use Rattle.writer.proofs.Stores.{put-both}
 use borrow.Author.Needs.{needs}

@@ -1,7 +1,7 @@
 use Rattle.message.specs.Encode.{fromTo}
 use mathlib.Core.Path.{refl}
 use native.Mathlib.Omega.{arith}
-use Rattle.writer.proofs.Stores.{tail-room, put-in-tail}
+use Rattle.writer.proofs.Stores.{put-in-tail}
 use borrow.Author.Needs.{needs}
 use Rattle.writer.proofs.put_tuple.Statement.{statement}
 use Rattle.writer.proofs.put_tuple.Tie as tie

@@ -1,7 +1,3 @@
-use Rattle.message.specs.Encode.{digits}
-use lib.ListN.{length}
-use Prim.Native.Nat.{_≤_, _+_}
-use mathlib.Core.Path.{_∙_}
 use native.Mathlib.Omega.{arith}
 use Rattle.message.proofs.Judged.{length-digits}
 use Rattle.writer.proofs.Stores.{put-none}

@@ -1,6 +1,6 @@
 use Rattle.writer.proofs.Old.{old-steps}
 use mathlib.Core.List.{[], _∷_}
-use Rattle.writer.proofs.Whole.{lettered, refuse, has-room, accept}
+use Rattle.writer.proofs.Whole.{refuse, has-room, accept}
 use Rattle.message.specs.Pieces.{messagePieces, steps, bytePiece, tuplePiece, placed}
 use Rattle.message.specs.declared.Message.the-variants as a
 use Rattle.wire.specs.declared.Cursor.the-variants.{At}

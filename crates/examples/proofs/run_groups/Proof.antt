@@ -1,0 +1,80 @@
+use borrow.Author.Needs.{needs}
+use Prim.Native.Nat.{_≤_, _-_}
+use lib.ListN.{length}
+use mathlib.Core.Path.{_≡_}
+use native.Mathlib.Omega.{arith}
+use Rattle.examples.proofs.run_groups.Statement.{statement}
+use Rattle.examples.proofs.run_groups.Tie as tie
+
+abbrev Inv-loop : tie.InvT-loop
+Inv-loop cases message₀ at₀ message at = (at ≤ length cases) × (length message ≡ length message₀)
+
+abbrev μ-loop : tie.MeasureT-loop
+μ-loop cases message₀ at₀ message at = length cases - at
+
+next-group-requires : tie.Need-next-group-requires Inv-loop μ-loop
+next-group-requires c κs = search needs
+
+loop-holds : tie.Need-loop-holds Inv-loop μ-loop
+loop-holds c = search needs
+
+next-line-requires : tie.Need-next-line-requires Inv-loop μ-loop
+next-line-requires c κs = search needs
+
+next-group-requires-2 : tie.Need-next-group-requires-2 Inv-loop μ-loop
+next-group-requires-2 c κs = search needs
+
+sub-group : tie.Need-sub-group Inv-loop μ-loop
+sub-group c = omega (arith, c .before .next-line .ensures .beyond (omega arith), c .next-group2 .ensures .onward (omega arith))
+
+part-group-start : tie.Need-part-group-start Inv-loop μ-loop
+part-group-start c = omega (arith, c .before .next-line .ensures .beyond (omega arith), c .next-group2 .ensures .onward (omega arith))
+
+part-group-end : tie.Need-part-group-end Inv-loop μ-loop
+part-group-end c = search needs
+
+run-lines-requires : tie.Need-run-lines-requires Inv-loop μ-loop
+run-lines-requires c κs = search needs
+
+name-requires : tie.Need-name-requires Inv-loop μ-loop
+name-requires c κs = search needs
+
+print-requires : tie.Need-print-requires Inv-loop μ-loop
+print-requires c κs = search needs
+
+print-tally-requires : tie.Need-print-tally-requires Inv-loop μ-loop
+print-tally-requires c κs = search needs
+
+loop-less : tie.Need-loop-less Inv-loop μ-loop
+loop-less c = omega (arith, c .before .before .before .before .before .before .before .before .before .next-line .ensures .beyond (omega arith), c .before .before .before .before .before .before .before .before .next-group2 .ensures .onward (omega arith))
+
+loop-again : tie.Need-loop-again Inv-loop μ-loop
+loop-again c = search needs
+
+same-length : tie.Need-same-length Inv-loop μ-loop
+same-length c = search needs
+
+returns : tie.Need-returns Inv-loop μ-loop
+returns c = search needs
+
+pub run-groups-spec : {M : Type 1} → statement M
+run-groups-spec =
+    tie.close
+    (tie.spec
+    Inv-loop
+    μ-loop
+    next-group-requires
+    loop-holds
+    next-line-requires
+    next-group-requires-2
+    sub-group
+    part-group-start
+    part-group-end
+    run-lines-requires
+    name-requires
+    print-requires
+    print-tally-requires
+    loop-less
+    loop-again
+    same-length
+    returns)

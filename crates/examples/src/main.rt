@@ -1,0 +1,337 @@
+// Gives the cases of its standard input to the reader and to the second reader, and says for each group how many ran and
+// on how many both gave the same answer and the one that stands there. Cases that are marked for it are then varied: at
+// every version and place, cut short, made longer, and with one byte changed.
+ghost use Prim.Native.Nat.{_≤_};
+ghost use lib.ListN.{length};
+use libc::STDIN_FILENO;
+use libc::STDOUT_FILENO;
+use message::Version;
+use second_reader::Seen;
+
+mod flat;
+mod text;
+
+const AS_WRITTEN: u8 = 0;
+
+const EVERY_VERSION: u8 = 1;
+
+const CUT_SHORT: u8 = 2;
+
+const LONGER: u8 = 3;
+
+const CHANGED: u8 = 4;
+
+// The bytes that are put in: numbers at the edges, and every letter that a layout has.
+const BYTES: [u8; 35] = *b"\x00\x01\x02\x03\x04\x06\x07\x08\x40\x7F\x80\xFFABCDEIKMNORSTUYbcdfintu";
+
+const VERSIONS: [u32; 5] = [0, 1, 2, 3, 0xFFFF_FFFF];
+
+struct Tally {
+    cases: u64,
+    agreed: u64,
+}
+
+impl Tally {
+    fn with(self, is_agreed: bool) -> Self {
+        let cases = std::num::wrapping_add_u64(self.cases, 1);
+        let agreed = if is_agreed {
+            std::num::wrapping_add_u64(self.agreed, 1)
+        } else {
+            self.agreed
+        };
+        Tally { cases, agreed }
+    }
+}
+
+fn print(text: &[u8]) {
+    io::write_all(STDOUT_FILENO, text);
+}
+
+fn print_number(n: u64) {
+    io::print_decimal(STDOUT_FILENO, n);
+}
+
+fn print_byte(b: u8) {
+    io::print_hex(STDOUT_FILENO, b as u64, 2);
+}
+
+fn print_bytes(bytes: &[u8]) {
+    let mut k = 0;
+    while k < bytes.len() {
+        print_byte(bytes[k]);
+        k += 1;
+    }
+}
+
+fn print_answer(seen: Seen) {
+    print_number(seen.number as u64);
+    print(b" ");
+    print_number(seen.offset as u64);
+    print(b":");
+    let mut k: usize = 1;
+    while k < 16 {
+        if k < seen.count {
+            print(b" ");
+            print_number(seen.values[k]);
+        }
+        k += 1;
+    }
+}
+
+fn print_difference(version: u32, in_block: bool, bytes: &[u8], first: Seen, second: Seen) {
+    print(b"  ");
+    print_number(version as u64);
+    if in_block {
+        print(b" b ");
+    } else {
+        print(b" - ");
+    }
+    print_bytes(bytes);
+    print(b" reader ");
+    print_answer(first);
+    print(b" second ");
+    print_answer(second);
+    print(b"\n");
+}
+
+fn print_tally(tally: Tally) {
+    print(b": ");
+    print_number(tally.cases);
+    if tally.cases == 1 {
+        print(b" case, ");
+    } else {
+        print(b" cases, ");
+    }
+    print_number(tally.agreed);
+    print(b" agreed\n");
+}
+
+// Whether the values of an answer are these.
+fn are_values(answer: &[u8], from: usize, seen: Seen) -> bool {
+    let mut at = from;
+    let mut k: usize = 1;
+    while k < 16 {
+        if k < seen.count {
+            let value = text::read_decimal(answer, at);
+            if !value.good || value.value != seen.values[k] {
+                return false;
+            }
+            at = value.next;
+        }
+        k += 1;
+    }
+    text::byte_at(answer, text::skip_spaces(answer, at)) == b'\n'
+}
+
+// Whether an answer that is written in a case is this one.
+fn is_answer(answer: &[u8], seen: Seen) -> bool {
+    let number = text::read_decimal(answer, 0);
+    let offset = text::read_decimal(answer, number.next);
+    if !number.good || number.value != seen.number as u64 {
+        return false;
+    }
+    if !offset.good || offset.value != seen.offset as u64 {
+        return false;
+    }
+    let at = text::skip_spaces(answer, offset.next);
+    match text::byte_at(answer, at) {
+        b'\n' => true,
+        b':' => are_values(answer, std::num::wrapping_add_usize(at, 1), seen),
+        _ => false,
+    }
+}
+
+// Gives bytes to both readers. An empty answer stands for any.
+fn run(tally: Tally, version: u32, in_block: bool, bytes: &[u8], answer: &[u8]) -> Tally {
+    let first = flat::seen(
+        reader::read_message(Version { number: version }, in_block, bytes),
+        bytes,
+    );
+    let second = second_reader::read(version, in_block, bytes);
+    let is_agreed = flat::same(first, second) && (answer.len() == 0 || is_answer(answer, first));
+    if !is_agreed {
+        print_difference(version, in_block, bytes, first, second);
+    }
+    tally.with(is_agreed)
+}
+
+fn run_with_any_answer(tally: Tally, version: u32, in_block: bool, bytes: &[u8]) -> Tally {
+    run(tally, version, in_block, bytes, b"")
+}
+
+fn run_at_known_versions(tally: Tally, bytes: &[u8]) -> Tally {
+    let first = run_with_any_answer(tally, 1, false, bytes);
+    let outside = run_with_any_answer(first, 2, false, bytes);
+    run_with_any_answer(outside, 2, true, bytes)
+}
+
+fn run_at_every_version(tally: Tally, bytes: &[u8]) -> Tally {
+    let mut sum = tally;
+    let mut k: usize = 0;
+    while k < VERSIONS.len() {
+        sum = run_with_any_answer(sum, VERSIONS[k], false, bytes);
+        sum = run_with_any_answer(sum, VERSIONS[k], true, bytes);
+        k += 1;
+    }
+    sum
+}
+
+fn run_cut_short(tally: Tally, bytes: &[u8]) -> Tally {
+    let mut sum = tally;
+    let mut n = 0;
+    while n < bytes.len() {
+        sum = run_at_known_versions(sum, text::front(bytes, n));
+        n += 1;
+    }
+    sum
+}
+
+fn run_longer(tally: Tally, message: &mut [u8], size: usize) -> Tally {
+    let mut sum = tally;
+    let mut k: usize = 0;
+    while k < BYTES.len() {
+        text::put(message, size, BYTES[k]);
+        sum = run_at_known_versions(
+            sum,
+            text::front(message, std::num::wrapping_add_usize(size, 1)),
+        );
+        k += 1;
+    }
+    sum
+}
+
+fn run_changed_at(tally: Tally, message: &mut [u8], size: usize, at: usize) -> Tally {
+    let before = text::byte_at(message, at);
+    let mut sum = tally;
+    let mut k: usize = 0;
+    while k < BYTES.len() {
+        text::put(message, at, BYTES[k]);
+        sum = run_at_known_versions(sum, text::front(message, size));
+        k += 1;
+    }
+    text::put(message, at, before);
+    sum
+}
+
+fn run_changed(tally: Tally, message: &mut [u8], size: usize) -> Tally {
+    let mut sum = tally;
+    let mut at: usize = 0;
+    while at < size {
+        sum = run_changed_at(sum, message, size, at);
+        at += 1;
+    }
+    sum
+}
+
+fn run_varied(tally: Tally, pass: u8, message: &mut [u8], size: usize) -> Tally {
+    match pass {
+        EVERY_VERSION => run_at_every_version(tally, text::front(message, size)),
+        CUT_SHORT => run_cut_short(tally, text::front(message, size)),
+        LONGER => run_longer(tally, message, size),
+        CHANGED => run_changed(tally, message, size),
+        _ => tally,
+    }
+}
+
+fn run_line(tally: Tally, pass: u8, line: &[u8], message: &mut [u8]) -> Tally {
+    let first = text::byte_at(line, 0);
+    if first == b'#' || first == b'/' || first == b'\n' {
+        return tally;
+    }
+    let is_varied = first == b'~';
+    let case = text::parse_case(line, is_varied as usize, message);
+    if !case.good {
+        print(b"  not a case: ");
+        print(line);
+        return tally.with(false);
+    }
+    if pass == AS_WRITTEN {
+        return run(
+            tally,
+            case.version,
+            case.in_block,
+            text::front(message, case.size),
+            text::back(line, case.answer),
+        );
+    }
+    if is_varied {
+        run_varied(tally, pass, message, case.size)
+    } else {
+        tally
+    }
+}
+
+fn run_lines(pass: u8, lines: &[u8], message: &mut [u8]) -> Tally {
+    let mut tally = Tally {
+        cases: 0,
+        agreed: 0,
+    };
+    let mut at = 0;
+    while at < lines.len() {
+        let next = text::next_line(lines, at);
+        tally = run_line(tally, pass, &lines[at..next], message);
+        at = next;
+    }
+    tally
+}
+
+fn run_groups(cases: &[u8], message: &mut [u8]) {
+    let mut at = text::next_group(cases, 0);
+    while at < cases.len() {
+        let next = text::next_group(cases, text::next_line(cases, at));
+        let group = &cases[at..next];
+        let tally = run_lines(AS_WRITTEN, group, message);
+        print(text::name(group));
+        print_tally(tally);
+        at = next;
+    }
+}
+
+fn run_pass(pass: u8, name: &[u8], cases: &[u8], message: &mut [u8]) {
+    let tally = run_lines(pass, cases, message);
+    print(name);
+    print_tally(tally);
+}
+
+fn run_all(cases: &[u8], message: &mut [u8]) {
+    run_groups(cases, message);
+    run_pass(
+        EVERY_VERSION,
+        b"varied, every version and place",
+        cases,
+        message,
+    );
+    run_pass(CUT_SHORT, b"varied, cut short", cases, message);
+    run_pass(LONGER, b"varied, a byte longer", cases, message);
+    run_pass(CHANGED, b"varied, a byte changed", cases, message);
+}
+
+fn read_some(room: &mut [u8]) -> usize
+    ensures { λ r. ⌜ r ≤ length (now (room .entry)) ⌝ }
+{
+    let got = libc::read(STDIN_FILENO, room);
+    io::count(got, room)
+}
+
+// Reads until there is no more input, or no more room.
+fn read_all(room: &mut [u8]) -> usize {
+    let mut n = 0;
+    while n < room.len() {
+        let got = read_some(&mut room[n..]);
+        if got == 0 {
+            return n;
+        }
+        n += got;
+    }
+    n
+}
+
+fn main() {
+    let mut room = io::large_buffer();
+    let mut message = io::large_buffer();
+    let n = read_all(&mut room);
+    if n == room.len() {
+        print(b"no room for the cases\n");
+    }
+    run_all(text::front(&room, n), &mut message);
+}

@@ -1,0 +1,63 @@
+use borrow.Author.Needs.{needs}
+use Prim.Native.Nat.{_≤_, _-_}
+use lib.ListN.{length}
+use Rattle.second_reader.specs.Bounds.{Kept}
+use Rattle.second_reader.proofs.layout.Statement.{statement}
+use Rattle.second_reader.proofs.layout.Tie as tie
+
+abbrev Inv-loop : tie.InvT-loop
+Inv-loop s in-block codes seen₀ k₀ seen k = (k ≤ length codes) × Kept (length s) seen
+
+abbrev μ-loop : tie.MeasureT-loop
+μ-loop s in-block codes seen₀ k₀ seen k = length codes - k
+
+none-requires : tie.Need-none-requires Inv-loop μ-loop
+none-requires c κs = search needs
+
+keep-number-requires : tie.Need-keep-number-requires Inv-loop μ-loop
+keep-number-requires c κs = search needs
+
+loop-holds : tie.Need-loop-holds Inv-loop μ-loop
+loop-holds c = search needs
+
+returns : tie.Need-returns Inv-loop μ-loop
+returns c = search needs
+
+shared-slice-read-keep-field : tie.Need-shared-slice-read-keep-field Inv-loop μ-loop
+shared-slice-read-keep-field c = search needs
+
+keep-field-requires : tie.Need-keep-field-requires Inv-loop μ-loop
+keep-field-requires c κs = search needs
+
+add-k : tie.Need-add-k Inv-loop μ-loop
+add-k c = search needs
+
+loop-less : tie.Need-loop-less Inv-loop μ-loop
+loop-less c = search needs
+
+loop-again : tie.Need-loop-again Inv-loop μ-loop
+loop-again c = search needs
+
+finished-requires : tie.Need-finished-requires Inv-loop μ-loop
+finished-requires c κs = search needs
+
+returns-2 : tie.Need-returns-2 Inv-loop μ-loop
+returns-2 c = search needs
+
+pub layout-spec : {M : Type 1} → statement M
+layout-spec =
+    tie.close
+    (tie.spec
+    Inv-loop
+    μ-loop
+    none-requires
+    keep-number-requires
+    loop-holds
+    returns
+    shared-slice-read-keep-field
+    keep-field-requires
+    add-k
+    loop-less
+    loop-again
+    finished-requires
+    returns-2)
