@@ -7,6 +7,7 @@ use libc::STDIN_FILENO;
 use libc::STDOUT_FILENO;
 use message::Version;
 use second_reader::Seen;
+use text::Decimal;
 
 mod flat;
 mod text;
@@ -96,14 +97,14 @@ fn print_difference(version: u32, in_block: bool, bytes: &[u8], first: Seen, sec
 
 fn print_tally(tally: Tally) {
     print(b": ");
-    print_number(tally.cases);
-    if tally.cases == 1 {
-        print(b" case, ");
-    } else {
-        print(b" cases, ");
-    }
     print_number(tally.agreed);
+    print(b" of ");
+    print_number(tally.cases);
     print(b" agreed\n");
+}
+
+fn is_value(decimal: Decimal, value: u64) -> bool {
+    decimal.good && decimal.value == value
 }
 
 // Whether the values of an answer are these.
@@ -113,7 +114,7 @@ fn are_values(answer: &[u8], from: usize, seen: Seen) -> bool {
     while k < 16 {
         if k < seen.count {
             let value = text::read_decimal(answer, at);
-            if !value.good || value.value != seen.values[k] {
+            if !is_value(value, seen.values[k]) {
                 return false;
             }
             at = value.next;
@@ -130,10 +131,10 @@ fn is_answer(answer: &[u8], seen: Seen) -> bool {
     }
     let number = text::read_decimal(answer, 0);
     let offset = text::read_decimal(answer, number.next);
-    if !number.good || number.value != seen.number as u64 {
+    if !is_value(number, seen.number as u64) {
         return false;
     }
-    if !offset.good || offset.value != seen.offset as u64 {
+    if !is_value(offset, seen.offset as u64) {
         return false;
     }
     let at = text::skip_spaces(answer, offset.next);
