@@ -7,6 +7,7 @@ use libc::STDIN_FILENO;
 use libc::STDOUT_FILENO;
 use message::Version;
 use second_reader::Seen;
+use text::Decimal;
 
 mod flat;
 mod text;
@@ -96,14 +97,14 @@ fn print_difference(version: u32, in_block: bool, bytes: &[u8], first: Seen, sec
 
 fn print_tally(tally: Tally) {
     print(b": ");
-    print_number(tally.cases);
-    if tally.cases == 1 {
-        print(b" case, ");
-    } else {
-        print(b" cases, ");
-    }
     print_number(tally.agreed);
+    print(b" of ");
+    print_number(tally.cases);
     print(b" agreed\n");
+}
+
+fn is_value(decimal: Decimal, value: u64) -> bool {
+    decimal.good && decimal.value == value
 }
 
 // Whether the values of an answer are these.
@@ -113,7 +114,7 @@ fn are_values(answer: &[u8], from: usize, seen: Seen) -> bool {
     while k < 16 {
         if k < seen.count {
             let value = text::read_decimal(answer, at);
-            if !value.good || value.value != seen.values[k] {
+            if !is_value(value, seen.values[k]) {
                 return false;
             }
             at = value.next;
@@ -123,14 +124,17 @@ fn are_values(answer: &[u8], from: usize, seen: Seen) -> bool {
     text::byte_at(answer, text::skip_spaces(answer, at)) == b'\n'
 }
 
-// Whether an answer that is written in a case is this one.
+// Whether an answer that is written in a case is this one. An empty answer stands for any.
 fn is_answer(answer: &[u8], seen: Seen) -> bool {
+    if answer.len() == 0 {
+        return true;
+    }
     let number = text::read_decimal(answer, 0);
     let offset = text::read_decimal(answer, number.next);
-    if !number.good || number.value != seen.number as u64 {
+    if !is_value(number, seen.number as u64) {
         return false;
     }
-    if !offset.good || offset.value != seen.offset as u64 {
+    if !is_value(offset, seen.offset as u64) {
         return false;
     }
     let at = text::skip_spaces(answer, offset.next);
@@ -141,14 +145,14 @@ fn is_answer(answer: &[u8], seen: Seen) -> bool {
     }
 }
 
-// Gives bytes to both readers. An empty answer stands for any.
+// Gives bytes to both readers.
 fn run(tally: Tally, version: u32, in_block: bool, bytes: &[u8], answer: &[u8]) -> Tally {
     let first = flat::seen(
         reader::read_message(Version { number: version }, in_block, bytes),
         bytes,
     );
     let second = second_reader::read(version, in_block, bytes);
-    let is_agreed = flat::same(first, second) && (answer.len() == 0 || is_answer(answer, first));
+    let is_agreed = flat::same(first, second) && is_answer(answer, first);
     if !is_agreed {
         print_difference(version, in_block, bytes, first, second);
     }
@@ -233,9 +237,17 @@ fn run_varied(tally: Tally, pass: u8, message: &mut [u8], size: usize) -> Tally 
     }
 }
 
+// Whether a line with this first byte is a group's name, a note or empty.
+fn is_no_case(first: u8) -> bool {
+    match first {
+        b'#' | b'/' | b'\n' => true,
+        _ => false,
+    }
+}
+
 fn run_line(tally: Tally, pass: u8, line: &[u8], message: &mut [u8]) -> Tally {
     let first = text::byte_at(line, 0);
-    if first == b'#' || first == b'/' || first == b'\n' {
+    if is_no_case(first) {
         return tally;
     }
     let is_varied = first == b'~';
@@ -287,23 +299,28 @@ fn run_groups(cases: &[u8], message: &mut [u8]) {
     }
 }
 
-fn run_pass(pass: u8, name: &[u8], cases: &[u8], message: &mut [u8]) {
-    let tally = run_lines(pass, cases, message);
-    print(name);
-    print_tally(tally);
+fn print_pass(pass: u8) {
+    match pass {
+        EVERY_VERSION => print(b"varied, every version and place"),
+        CUT_SHORT => print(b"varied, cut short"),
+        LONGER => print(b"varied, a byte longer"),
+        _ => print(b"varied, a byte changed"),
+    }
+}
+
+fn run_passes(cases: &[u8], message: &mut [u8]) {
+    let mut pass = EVERY_VERSION;
+    while pass <= CHANGED {
+        let tally = run_lines(pass, cases, message);
+        print_pass(pass);
+        print_tally(tally);
+        pass += 1;
+    }
 }
 
 fn run_all(cases: &[u8], message: &mut [u8]) {
     run_groups(cases, message);
-    run_pass(
-        EVERY_VERSION,
-        b"varied, every version and place",
-        cases,
-        message,
-    );
-    run_pass(CUT_SHORT, b"varied, cut short", cases, message);
-    run_pass(LONGER, b"varied, a byte longer", cases, message);
-    run_pass(CHANGED, b"varied, a byte changed", cases, message);
+    run_passes(cases, message);
 }
 
 fn read_some(room: &mut [u8]) -> usize

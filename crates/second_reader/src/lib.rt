@@ -1,6 +1,7 @@
-// Reads the messages of logical replication a second way, to compare the reader with. The layout of each kind is a
-// string of field codes, which a loop goes through:
+// Reads the messages of logical replication a second way, to compare the reader with. A table has the layout of each
+// kind as a row of field codes, which a loop goes through:
 //
+//   l  a kind's letter
 //   x  an xid, inside a stream block only        i  an id, not 0
 //   w  any 32 bits                               q  any 64 bits
 //   0  1  3  a byte of at most that              d  the letter of a replica identity
@@ -27,6 +28,12 @@ const FIELD: u8 = 4;
 const LEFT_OVER: u8 = 5;
 
 const RANGE: u8 = 6;
+
+// A row for each kind: its letter, the codes of its fields, and a space. The first rows are those of version 1.
+const LAYOUTS: [u8; 76] =
+    *b"Bqqi C0qqq Oqs RxissdcC Yxwss IxiN UxiUN DxiK Txr3R Mx1qsv Si1 E ci0qqq Aii ";
+
+const FIRST_ROWS: usize = 59;
 
 const LARGEST: usize = 1_073_741_823;
 
@@ -494,52 +501,39 @@ fn finished(s: &[u8], seen: Seen) -> Seen
     seen
 }
 
-// A message of the fields of `codes` after its letter.
-fn layout(s: &[u8], in_block: bool, codes: &[u8]) -> Seen
+// Where in the table the codes for a letter start, or 0 where none of its first `rows` bytes starts a row for it.
+fn codes_for(letter: u8, rows: usize) -> usize
+    requires { ⌜ rows ≤ 76 ⌝ }
+{
+    let mut is_start = true;
+    let mut at: usize = 0;
+    while at < rows {
+        if is_start && LAYOUTS[at] == letter {
+            return at + 1;
+        }
+        is_start = LAYOUTS[at] == b' ';
+        at += 1;
+    }
+    0
+}
+
+// A message whose codes start at `codes` in the table.
+fn layout(s: &[u8], in_block: bool, codes: usize) -> Seen
     ensures { λ r. ⌜ Answered (length (now (s .entry))) r ⌝ }
 {
     let mut seen = keep_number(s, none(0, 0), b'l');
-    let mut k = 0;
-    while k < codes.len() {
+    let mut k = codes;
+    while k < LAYOUTS.len() {
         if seen.number != 0 {
             return seen;
         }
-        seen = keep_field(s, seen, in_block, codes[k]);
+        if LAYOUTS[k] == b' ' {
+            return finished(s, seen);
+        }
+        seen = keep_field(s, seen, in_block, LAYOUTS[k]);
         k += 1;
     }
     finished(s, seen)
-}
-
-// The kinds of version 1.
-fn transaction_kind(s: &[u8], in_block: bool, letter: u8) -> Seen
-    ensures { λ r. ⌜ Answered (length (now (s .entry))) r ⌝ }
-{
-    match letter {
-        b'B' => layout(s, in_block, b"qqi"),
-        b'C' => layout(s, in_block, b"0qqq"),
-        b'O' => layout(s, in_block, b"qs"),
-        b'R' => layout(s, in_block, b"xissdcC"),
-        b'Y' => layout(s, in_block, b"xwss"),
-        b'I' => layout(s, in_block, b"xiN"),
-        b'U' => layout(s, in_block, b"xiUN"),
-        b'D' => layout(s, in_block, b"xiK"),
-        b'T' => layout(s, in_block, b"xr3R"),
-        b'M' => layout(s, in_block, b"x1qsv"),
-        _ => none(KIND, 0),
-    }
-}
-
-// The kinds of version 2.
-fn stream_kind(s: &[u8], in_block: bool, letter: u8) -> Seen
-    ensures { λ r. ⌜ Answered (length (now (s .entry))) r ⌝ }
-{
-    match letter {
-        b'S' => layout(s, in_block, b"i1"),
-        b'E' => layout(s, in_block, b""),
-        b'c' => layout(s, in_block, b"i0qqq"),
-        b'A' => layout(s, in_block, b"ii"),
-        _ => transaction_kind(s, in_block, letter),
-    }
 }
 
 // Reads any bytes at any version, inside a stream block or outside.
@@ -555,9 +549,14 @@ pub fn read(version: u32, in_block: bool, s: &[u8]) -> Seen
     if s.len() == 0 {
         return none(SHORT, 0);
     }
-    if version == 1 {
-        transaction_kind(s, in_block, s[0])
+    let rows = if version == 1 {
+        FIRST_ROWS
     } else {
-        stream_kind(s, in_block, s[0])
+        LAYOUTS.len()
+    };
+    let codes = codes_for(s[0], rows);
+    if codes == 0 {
+        return none(KIND, 0);
     }
+    layout(s, in_block, codes)
 }

@@ -15,11 +15,14 @@ loop-holds c = search needs
 read-decimal-requires : tie.Need-read-decimal-requires Inv-loop μ-loop
 read-decimal-requires c κs = search needs
 
-mul-if3 : tie.Need-mul-if3 Inv-loop μ-loop
-mul-if3 c = search needs
+mul-is-value : tie.Need-mul-is-value Inv-loop μ-loop
+mul-is-value c = search needs
 
-element-copy-out-if3 : tie.Need-element-copy-out-if3 Inv-loop μ-loop
-element-copy-out-if3 c = search needs
+element-copy-out-is-value : tie.Need-element-copy-out-is-value Inv-loop μ-loop
+element-copy-out-is-value c = search needs
+
+is-value-requires : tie.Need-is-value-requires Inv-loop μ-loop
+is-value-requires c κs = search needs
 
 returns : tie.Need-returns Inv-loop μ-loop
 returns c = search needs
@@ -50,8 +53,9 @@ are-values-spec =
     μ-loop
     loop-holds
     read-decimal-requires
-    mul-if3
-    element-copy-out-if3
+    mul-is-value
+    element-copy-out-is-value
+    is-value-requires
     returns
     add-k
     loop-less

@@ -1,4 +1,4 @@
-use borrow.Author.Needs.{needs}
+use native.Mathlib.Omega.{arith}
 use Prim.Native.Nat.{_≤_, _-_}
 use Rattle.examples.proofs.run_at_every_version.Statement.{statement}
 use Rattle.examples.proofs.run_at_every_version.Tie as tie
@@ -10,37 +10,37 @@ abbrev μ-loop : tie.MeasureT-loop
 μ-loop bytes sum₀ k₀ sum k = 5 - k
 
 loop-holds : tie.Need-loop-holds Inv-loop μ-loop
-loop-holds c = search needs
+loop-holds c = omega arith
 
 mul-run-with-any-answer : tie.Need-mul-run-with-any-answer Inv-loop μ-loop
-mul-run-with-any-answer c = search needs
+mul-run-with-any-answer c = omega arith
 
 array-read-run-with-any-answer : tie.Need-array-read-run-with-any-answer Inv-loop μ-loop
-array-read-run-with-any-answer c = search needs
+array-read-run-with-any-answer c = omega arith
 
 run-with-any-answer-requires : tie.Need-run-with-any-answer-requires Inv-loop μ-loop
-run-with-any-answer-requires c κs = search needs
+run-with-any-answer-requires c κs = tt
 
 mul-run-with-any-answer-2 : tie.Need-mul-run-with-any-answer-2 Inv-loop μ-loop
-mul-run-with-any-answer-2 c = search needs
+mul-run-with-any-answer-2 c = omega arith
 
 array-read-run-with-any-answer-2 : tie.Need-array-read-run-with-any-answer-2 Inv-loop μ-loop
-array-read-run-with-any-answer-2 c = search needs
+array-read-run-with-any-answer-2 c = omega arith
 
 run-with-any-answer-requires-2 : tie.Need-run-with-any-answer-requires-2 Inv-loop μ-loop
-run-with-any-answer-requires-2 c κs = search needs
+run-with-any-answer-requires-2 c κs = tt
 
 add-k : tie.Need-add-k Inv-loop μ-loop
-add-k c = search needs
+add-k c = omega arith
 
 loop-less : tie.Need-loop-less Inv-loop μ-loop
-loop-less c = search needs
+loop-less c = omega arith
 
 loop-again : tie.Need-loop-again Inv-loop μ-loop
-loop-again c = search needs
+loop-again c = omega arith
 
 returns : tie.Need-returns Inv-loop μ-loop
-returns c = search needs
+returns c = omega arith
 
 pub run-at-every-version-spec : {M : Type 1} → statement M
 run-at-every-version-spec =

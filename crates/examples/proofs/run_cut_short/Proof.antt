@@ -1,4 +1,4 @@
-use borrow.Author.Needs.{needs}
+use native.Mathlib.Omega.{arith}
 use Prim.Native.Nat.{_≤_, _-_}
 use lib.ListN.{length}
 use Rattle.examples.proofs.run_cut_short.Statement.{statement}
@@ -11,25 +11,25 @@ abbrev μ-loop : tie.MeasureT-loop
 μ-loop bytes sum₀ n₀ sum n = length bytes - n
 
 loop-holds : tie.Need-loop-holds Inv-loop μ-loop
-loop-holds c = search needs
+loop-holds c = omega arith
 
 front-requires : tie.Need-front-requires Inv-loop μ-loop
-front-requires c κs = search needs
+front-requires c κs = tt
 
 run-at-known-versions-requires : tie.Need-run-at-known-versions-requires Inv-loop μ-loop
-run-at-known-versions-requires c κs = search needs
+run-at-known-versions-requires c κs = tt
 
 add-n : tie.Need-add-n Inv-loop μ-loop
-add-n c = search needs
+add-n c = omega arith
 
 loop-less : tie.Need-loop-less Inv-loop μ-loop
-loop-less c = search needs
+loop-less c = omega arith
 
 loop-again : tie.Need-loop-again Inv-loop μ-loop
-loop-again c = search needs
+loop-again c = omega arith
 
 returns : tie.Need-returns Inv-loop μ-loop
-returns c = search needs
+returns c = omega arith
 
 pub run-cut-short-spec : {M : Type 1} → statement M
 run-cut-short-spec =

@@ -1,4 +1,3 @@
-use borrow.Author.Needs.{needs}
 use Prim.Native.Nat.{_≤_, _-_}
 use lib.ListN.{length}
 use mathlib.Core.Path.{_≡_}
@@ -13,16 +12,16 @@ abbrev μ-loop : tie.MeasureT-loop
 μ-loop cases message₀ at₀ message at = length cases - at
 
 next-group-requires : tie.Need-next-group-requires Inv-loop μ-loop
-next-group-requires c κs = search needs
+next-group-requires c κs = tt
 
 loop-holds : tie.Need-loop-holds Inv-loop μ-loop
-loop-holds c = search needs
+loop-holds c = omega arith
 
 next-line-requires : tie.Need-next-line-requires Inv-loop μ-loop
-next-line-requires c κs = search needs
+next-line-requires c κs = tt
 
 next-group-requires-2 : tie.Need-next-group-requires-2 Inv-loop μ-loop
-next-group-requires-2 c κs = search needs
+next-group-requires-2 c κs = tt
 
 sub-group : tie.Need-sub-group Inv-loop μ-loop
 sub-group c = omega (arith, c .before .next-line .ensures .beyond (omega arith), c .next-group2 .ensures .onward (omega arith))
@@ -31,31 +30,31 @@ part-group-start : tie.Need-part-group-start Inv-loop μ-loop
 part-group-start c = omega (arith, c .before .next-line .ensures .beyond (omega arith), c .next-group2 .ensures .onward (omega arith))
 
 part-group-end : tie.Need-part-group-end Inv-loop μ-loop
-part-group-end c = search needs
+part-group-end c = omega arith
 
 run-lines-requires : tie.Need-run-lines-requires Inv-loop μ-loop
-run-lines-requires c κs = search needs
+run-lines-requires c κs = tt
 
 name-requires : tie.Need-name-requires Inv-loop μ-loop
-name-requires c κs = search needs
+name-requires c κs = tt
 
 print-requires : tie.Need-print-requires Inv-loop μ-loop
-print-requires c κs = search needs
+print-requires c κs = tt
 
 print-tally-requires : tie.Need-print-tally-requires Inv-loop μ-loop
-print-tally-requires c κs = search needs
+print-tally-requires c κs = tt
 
 loop-less : tie.Need-loop-less Inv-loop μ-loop
 loop-less c = omega (arith, c .before .before .before .before .before .before .before .before .before .next-line .ensures .beyond (omega arith), c .before .before .before .before .before .before .before .before .next-group2 .ensures .onward (omega arith))
 
 loop-again : tie.Need-loop-again Inv-loop μ-loop
-loop-again c = search needs
+loop-again c = omega arith
 
 same-length : tie.Need-same-length Inv-loop μ-loop
-same-length c = search needs
+same-length c = omega arith
 
 returns : tie.Need-returns Inv-loop μ-loop
-returns c = search needs
+returns c = omega arith
 
 pub run-groups-spec : {M : Type 1} → statement M
 run-groups-spec =

@@ -1,4 +1,3 @@
-use borrow.Author.Needs.{needs}
 use Prim.Native.Nat.{_≤_, _-_}
 use lib.ListN.{length}
 use mathlib.Core.Path.{_≡_}
@@ -13,10 +12,10 @@ abbrev μ-loop : tie.MeasureT-loop
 μ-loop pass lines message₀ tally₀ at₀ message tally at = length lines - at
 
 loop-holds : tie.Need-loop-holds Inv-loop μ-loop
-loop-holds c = search needs
+loop-holds c = omega arith
 
 next-line-requires : tie.Need-next-line-requires Inv-loop μ-loop
-next-line-requires c κs = search needs
+next-line-requires c κs = tt
 
 sub-run-line : tie.Need-sub-run-line Inv-loop μ-loop
 sub-run-line c = omega (arith, c .next-line .ensures .beyond (omega arith))
@@ -25,22 +24,22 @@ part-run-line-start : tie.Need-part-run-line-start Inv-loop μ-loop
 part-run-line-start c = omega (arith, c .next-line .ensures .beyond (omega arith))
 
 part-run-line-end : tie.Need-part-run-line-end Inv-loop μ-loop
-part-run-line-end c = search needs
+part-run-line-end c = omega arith
 
 run-line-requires : tie.Need-run-line-requires Inv-loop μ-loop
-run-line-requires c κs = search needs
+run-line-requires c κs = tt
 
 loop-less : tie.Need-loop-less Inv-loop μ-loop
 loop-less c = omega (arith, c .before .before .before .before .before .next-line .ensures .beyond (omega arith))
 
 loop-again : tie.Need-loop-again Inv-loop μ-loop
-loop-again c = search needs
+loop-again c = omega arith
 
 same-length : tie.Need-same-length Inv-loop μ-loop
-same-length c = search needs
+same-length c = omega arith
 
 returns : tie.Need-returns Inv-loop μ-loop
-returns c = search needs
+returns c = omega arith
 
 pub run-lines-spec : {M : Type 1} → statement M
 run-lines-spec =

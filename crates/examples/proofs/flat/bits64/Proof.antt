@@ -1,6 +1,5 @@
 use native.Mathlib.Omega.{arith}
 use Rattle.examples.proofs.Bits.{below, above}
-use borrow.Author.Needs.{needs}
 use Rattle.examples.proofs.flat.bits64.Statement.{statement}
 use Rattle.examples.proofs.flat.bits64.Tie as tie
 
@@ -17,10 +16,10 @@ cast-result-2 : tie.Need-cast-result-2
 cast-result-2 c = let f = above (c .before .args .v) (c .before .fits .v) (c .if1 .left) in rw (f .2) (tt, record { fits = omega (arith, f .1) })
 
 returns : tie.Need-returns
-returns c = search needs
+returns c = omega arith
 
 returns-2 : tie.Need-returns-2
-returns-2 c = search needs
+returns-2 c = omega arith
 
 pub bits64-spec : {M : Type 1} → statement M
 bits64-spec =

@@ -1,16 +1,17 @@
+use native.Mathlib.Omega.{arith}
 use mathlib.Core.Path.{refl}
 use borrow.Author.Needs.{needs}
 use Rattle.examples.proofs.flat.seen.Statement.{statement}
 use Rattle.examples.proofs.flat.seen.Tie as tie
 
 enum-known-read : tie.Need-enum-known-read
-enum-known-read c = search needs
+enum-known-read c = omega arith
 
 message-requires : tie.Need-message-requires
-message-requires c κs = search needs
+message-requires c κs = tt
 
 enum-known-read-2 : tie.Need-enum-known-read-2
-enum-known-read-2 c = search needs
+enum-known-read-2 c = omega arith
 
 returns : tie.Need-returns
 returns c = rw (c .before .before .before .read .given .1) (refl, refl)

@@ -4,21 +4,20 @@ use denote.Ref.{now}
 use lib.Seq.{take-all}
 use lib.ListN.{length, drop, length-drop, drop-of-length-le}
 use Prim.Native.Nat.{_≤_, _-_}
-use borrow.Author.Needs.{needs}
 use Rattle.examples.proofs.text.back.Statement.{statement}
 use Rattle.examples.proofs.text.back.Tie as tie
 
 sub-result : tie.Need-sub-result
-sub-result c = search needs
+sub-result c = omega arith
 
 part-result-start : tie.Need-part-result-start
-part-result-start c = search needs
+part-result-start c = omega arith
 
 part-result-end : tie.Need-part-result-end
-part-result-end c = search needs
+part-result-end c = omega arith
 
 slice-aggregate-result : tie.Need-slice-aggregate-result
-slice-aggregate-result c = search needs
+slice-aggregate-result c = omega arith
 
 returns : tie.Need-returns
 returns c = let h : length (drop (c .before .before .args .start) (now (c .before .before .args .bytes))) ≤ length (now (c .before .before .args .bytes)) - (c .before .before .args .start) = simp length-drop (omega arith) in take-all _ _ h

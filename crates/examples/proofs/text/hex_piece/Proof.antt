@@ -4,16 +4,16 @@ use Rattle.examples.proofs.text.hex_piece.Statement.{statement}
 use Rattle.examples.proofs.text.hex_piece.Tie as tie
 
 shared-slice-read-match : tie.Need-shared-slice-read-match
-shared-slice-read-match c = search needs
+shared-slice-read-match c = omega arith
 
 add-t11 : tie.Need-add-t11
-add-t11 c = search needs
+add-t11 c = omega arith
 
 add-read-decimal : tie.Need-add-read-decimal
-add-read-decimal c = search needs
+add-read-decimal c = omega arith
 
 read-decimal-requires : tie.Need-read-decimal-requires
-read-decimal-requires c κs = search needs
+read-decimal-requires c κs = tt
 
 repeat-requires : tie.Need-repeat-requires
 repeat-requires c κs = search needs
@@ -22,19 +22,19 @@ hex-byte-requires : tie.Need-hex-byte-requires
 hex-byte-requires c κs = search needs
 
 returns : tie.Need-returns
-returns c = search needs
+returns c = omega arith
 
 same-length : tie.Need-same-length
-same-length c = search needs
+same-length c = omega arith
 
 returns-2 : tie.Need-returns-2
 returns-2 c = record { beyond = omega (arith, c .before .before .before .before .read-decimal .ensures .onward (omega arith)); within = search needs; fits = search needs }
 
 same-length-2 : tie.Need-same-length-2
-same-length-2 c = search needs
+same-length-2 c = omega arith
 
 returns-3 : tie.Need-returns-3
-returns-3 c = search needs
+returns-3 c = omega arith
 
 pub hex-piece-spec : {M : Type 1} → statement M
 hex-piece-spec =

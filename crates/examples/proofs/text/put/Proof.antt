@@ -5,7 +5,7 @@ use Rattle.examples.proofs.text.put.Statement.{statement}
 use Rattle.examples.proofs.text.put.Tie as tie
 
 slice-write-message : tie.Need-slice-write-message
-slice-write-message c = search needs
+slice-write-message c = omega arith
 
 same-length : tie.Need-same-length
 same-length c = search needs
