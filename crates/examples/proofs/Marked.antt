@@ -1,29 +1,63 @@
 -- The marked examples, proved together: one statement over one table, by computation. Assumes nothing.
-use Prim.Native.Nat.{ℕ}
+use Prim.Native.Nat.{ℕ, zero, suc}
 use mathlib.Core.List.{List, [], _∷_, map}
 use mathlib.Core.Bool.{Bool, true, false}
 use mathlib.Core.Path.{_≡_, refl}
-use lib.IntN.{pos}
+use lib.IntN.{pos, negsuc}
 use Rattle.wire.specs.Numbers.{be, wordAt}
 use Rattle.wire.specs.Fields.{numberField, letterField, member, textField, untilZero, bytesField, valueField}
 use Rattle.message.specs.declared.Message.the-variants as a
 use Rattle.message.specs.declared.Read.{Read}
-use Rattle.message.specs.declared.Read.the-variants as read
+use Rattle.message.specs.declared.Read.the-variants as answer
 use Rattle.message.specs.Layout.{columnEnd, groupsEnd, tupleEnd, optional, xidField}
 use Rattle.message.specs.Kinds.{named}
 use Rattle.message.specs.Versions.{versionAllows, versionHas}
 use Rattle.message.specs.Messages.{refuse, readKind, readMessage}
+use Rattle.columns.specs.declared.Position.{Position}
+use Rattle.columns.specs.declared.Started.{Started}
+use Rattle.columns.specs.declared.Started.the-variants as started
+use Rattle.columns.specs.declared.Which.the-variants.{New}
+use Rattle.columns.specs.declared.Column.{Column}
+use Rattle.columns.specs.declared.Column.the-variants.{Value}
+use Rattle.columns.specs.declared.RelationColumn.{RelationColumn}
+use Rattle.columns.specs.declared.RelationColumn.the-variants as column
+use Rattle.columns.specs.Starts.{tuplePosition, tupleStart, relationStart}
+use Rattle.columns.specs.Steps.{columnField, relationField, tupleStep, relationStep}
 
 -- what an example asks
 data Question : Type 0 where
   -- what bytes are at a version, inside a block or outside
   reading : ℕ → Bool → List ℕ → Question
+  -- which columns its new tuple has
+  tupleColumns : ℕ → Bool → List ℕ → Question
+  -- which columns a Relation has
+  relationColumns : ℕ → Bool → List ℕ → Question
 
 data Answer : Type 0 where
   reads : Read → Answer
+  tupleHas : List Column → Answer
+  relationHas : List RelationColumn → Answer
+
+tupleSteps : List ℕ → ℕ → Position → List Column
+tupleSteps xs zero p = []
+tupleSteps xs (suc n) p = let s = tupleStep xs p in s .column ∷ tupleSteps xs n (s .next)
+
+relationSteps : List ℕ → ℕ → Position → List RelationColumn
+relationSteps xs zero p = []
+relationSteps xs (suc n) p = let s = relationStep xs p in s .column ∷ relationSteps xs n (s .next)
+
+-- as many steps as are left at a start
+from : {A : Type 0} → Started → (ℕ → Position → List A) → List A
+from (started.At p) steps = steps (p .left) p
+from (started.Refused r) steps = []
+
+read : ℕ → Bool → List ℕ → Read
+read version inBlock bytes = readMessage (record { number = version }) inBlock bytes
 
 ask : Question → Answer
-ask (reading version inBlock bytes) = reads (readMessage (record { number = version }) inBlock bytes)
+ask (reading version inBlock bytes) = reads (read version inBlock bytes)
+ask (tupleColumns version inBlock bytes) = tupleHas (from (tupleStart New bytes (read version inBlock bytes)) (tupleSteps bytes))
+ask (relationColumns version inBlock bytes) = relationHas (from (relationStart (read version inBlock bytes)) (relationSteps bytes))
 
 record Example : Type 0 where
   question : Question
@@ -43,14 +77,14 @@ table =
     (refuse 2 0)
     -- 2
     ∷ is 2 false (0x45 ∷ [])
-    (read.Message a.StreamStop)
+    (answer.Message a.StreamStop)
     ∷ is 1 false (0x45 ∷ [])
     (refuse 3 0)
     ∷ is 2 false (0x45 ∷ 0 ∷ [])
     (refuse 5 1)
     -- 3
     ∷ is 1 false (0x42 ∷ 0 ∷ 0 ∷ 0 ∷ 0 ∷ 0 ∷ 0 ∷ 0 ∷ 0x10 ∷ 0 ∷ 0 ∷ 0 ∷ 0 ∷ 0 ∷ 0 ∷ 0 ∷ 0 ∷ 0 ∷ 0 ∷ 0 ∷ 7 ∷ [])
-    (read.Message (a.Begin (record { «final_lsn» = 16; time = pos 0; xid = 7 })))
+    (answer.Message (a.Begin (record { «final_lsn» = 16; time = pos 0; xid = 7 })))
     -- 4
     ∷ is 1 false (0x42 ∷ 0 ∷ 0 ∷ 0 ∷ 0 ∷ 0 ∷ 0 ∷ 0 ∷ 0x10 ∷ 0 ∷ 0 ∷ 0 ∷ 0 ∷ 0 ∷ 0 ∷ 0 ∷ 0 ∷ 0 ∷ 0 ∷ 0 ∷ [])
     (refuse 2 17)
@@ -60,7 +94,9 @@ table =
     (refuse 5 21)
     -- 5
     ∷ is 1 false (0x49 ∷ 0 ∷ 0 ∷ 0 ∷ 5 ∷ 0x4E ∷ 0 ∷ 2 ∷ 0x6E ∷ 0x74 ∷ 0 ∷ 0 ∷ 0 ∷ 1 ∷ 0x61 ∷ [])
-    (read.Message (a.Insert (record { xid = 0; relation = 5; tuple = 6 })))
+    (answer.Message (a.Insert (record { xid = 0; relation = 5; tuple = 6 })))
+    ∷ example (tupleColumns 1 false (0x49 ∷ 0 ∷ 0 ∷ 0 ∷ 5 ∷ 0x4E ∷ 0 ∷ 2 ∷ 0x6E ∷ 0x74 ∷ 0 ∷ 0 ∷ 0 ∷ 1 ∷ 0x61 ∷ []))
+    (tupleHas (Value 0x6E 0 0 ∷ Value 0x74 14 1 ∷ []))
     -- 6
     ∷ is 1 false (0x49 ∷ 0 ∷ 0 ∷ 0 ∷ 5 ∷ 0x4E ∷ 0 ∷ 2 ∷ 0x6E ∷ 0x74 ∷ 0 ∷ 0 ∷ 0 ∷ 2 ∷ 0x61 ∷ [])
     (refuse 2 14)
@@ -68,12 +104,16 @@ table =
     (refuse 4 10)
     -- 7
     ∷ is 2 true (0x49 ∷ 0 ∷ 0 ∷ 0 ∷ 9 ∷ 0 ∷ 0 ∷ 0 ∷ 5 ∷ 0x4E ∷ 0 ∷ 0 ∷ [])
-    (read.Message (a.Insert (record { xid = 9; relation = 5; tuple = 10 })))
+    (answer.Message (a.Insert (record { xid = 9; relation = 5; tuple = 10 })))
+    ∷ example (tupleColumns 2 true (0x49 ∷ 0 ∷ 0 ∷ 0 ∷ 9 ∷ 0 ∷ 0 ∷ 0 ∷ 5 ∷ 0x4E ∷ 0 ∷ 0 ∷ []))
+    (tupleHas [])
     -- 8
     ∷ is 1 false (0x52 ∷ 0 ∷ 0 ∷ 0 ∷ 5 ∷ 0 ∷ 0x74 ∷ 0 ∷ 0x64 ∷ 0 ∷ 1 ∷ 1 ∷ 0x69 ∷ 0x64 ∷ 0 ∷ 0 ∷ 0 ∷ 0 ∷ 0x17 ∷ 0xFF ∷ 0xFF ∷ 0xFF ∷ 0xFF ∷ [])
-    (read.Message (a.Relation (record { xid = 0; relation = 5; namespace = record { start = 5; length = 0 }; name = record { start = 6; length = 1 }; identity = 0x64; count = 1; columns = 11 })))
+    (answer.Message (a.Relation (record { xid = 0; relation = 5; namespace = record { start = 5; length = 0 }; name = record { start = 6; length = 1 }; identity = 0x64; count = 1; columns = 11 })))
+    ∷ example (relationColumns 1 false (0x52 ∷ 0 ∷ 0 ∷ 0 ∷ 5 ∷ 0 ∷ 0x74 ∷ 0 ∷ 0x64 ∷ 0 ∷ 1 ∷ 1 ∷ 0x69 ∷ 0x64 ∷ 0 ∷ 0 ∷ 0 ∷ 0 ∷ 0x17 ∷ 0xFF ∷ 0xFF ∷ 0xFF ∷ 0xFF ∷ []))
+    (relationHas (column.Column 1 (record { start = 12; length = 2 }) 23 (negsuc 0) ∷ []))
     ∷ []
 
 marked : map (λ (e : Example). ask (e .question)) table ≡ map (λ (e : Example). e .answer) table
-unfolding ask example is table readMessage readKind named versionAllows versionHas valueField columnEnd groupsEnd tupleEnd optional xidField be wordAt numberField letterField member textField untilZero bytesField
+unfolding ask read from tupleSteps relationSteps example is table tuplePosition columnField relationField tupleStep relationStep readMessage readKind named versionAllows versionHas valueField columnEnd groupsEnd tupleEnd optional xidField be wordAt numberField letterField member textField untilZero bytesField
 marked = refl
