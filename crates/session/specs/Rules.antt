@@ -8,7 +8,7 @@ use Rattle.message.specs.declared.Version.{Version}
 use Rattle.message.specs.declared.Read.{Read}
 use Rattle.message.specs.declared.Read.the-variants as read
 use Rattle.message.specs.Messages.{readMessage}
-use Rattle.catalog.specs.Lists.{any, keep, distinct}
+use Rattle.catalog.specs.Lists.{keep, distinct}
 use Rattle.catalog.specs.declared.Lookup.{Lookup}
 use Rattle.catalog.specs.declared.Lookup.the-variants.{Missing, Found}
 use Rattle.session.specs.declared.Place.{Place}
