@@ -10,10 +10,8 @@ use Rattle.wire.specs.declared.Word.{Word}
 use Rattle.wire.specs.declared.Word.the-variants.{Value, Short}
 use Rattle.wire.specs.declared.Cursor.{Cursor}
 use Rattle.wire.specs.declared.Cursor.the-variants.{At, Refused}
-use Rattle.wire.specs.declared.Field64.{Field64}
 use Rattle.wire.specs.Numbers.{wordAt}
 use Rattle.wire.specs.Fields.{numberField, judged, noNumber, letterField, positionOf}
-use Rattle.wire.proofs.Cases.{number-cases}
 use Rattle.message.specs.declared.Version.{Version}
 use Rattle.message.specs.declared.Message.{Message}
 use Rattle.message.specs.declared.Read.the-variants as read
@@ -59,11 +57,6 @@ number-least w low high n xs (At at) {e} q = word (wordAt w xs at) q
     word Short q = let z : _≡_ {A = ℕ} 0 1 = cc in absurd (omega arith)
     word (Value v) q = test (leb low v) (leb v high) v refl q
 
--- and is followed by what comes after its bytes
-number-next : (w low high n : ℕ) (xs : List ℕ) (a e : ℕ) → numberField w low high n xs (At a) .next ≡ At e → e ≡ a + w
-number-next w low high n xs a e =
-    number-cases w low high n xs a (λ (f : Field64). f .next ≡ At e → e ≡ a + w) (λ k q. let z : _≡_ {A = ℕ} 0 1 = cc in absurd (omega arith)) (λ h q. cc)
-
 module _ (b : Bool) (xs : List ℕ) where
   -- a refusal passes through every part of a layout
   part-stays : (n o : ℕ) (p : Part) → readPart b p xs (Refused n o) .next ≡ Refused n o
@@ -89,19 +82,18 @@ module _ (b : Bool) (xs : List ℕ) where
       let k = number-least 4 1 0xFFFF_FFFF 4 xs c (r .1) in
       omega arith
 
-  oids-then : (n a e : ℕ) → groupsEnd (id ∷ []) xs n (At a) ≡ At e → AllNonZero (oidsAt n xs a)
+  oids-then : (n : ℕ) (c : Cursor) (e : ℕ) → groupsEnd (id ∷ []) xs n c ≡ At e → AllNonZero (oidsAt n xs c)
   unfolding groupsEnd
-  oids-then zero a e q = tt
-  oids-then (suc n) a e q =
-      let c = numberField 4 1 0xFFFF_FFFF 4 xs (At a) .next in
-      let r = reached (groupsEnd (id ∷ []) xs n) (λ k o. groups-stay xs k o (id ∷ []) n) c q in
-      let k : r .0 ≡ a + 4 = number-next 4 1 0xFFFF_FFFF 4 xs a (r .0) (r .1) in
-      (id-then [] (At a) (r .0) (r .1), oids-then n (a + 4) e (rw (← k) (rw (r .1) at q)))
+  oids-then zero c e q = tt
+  oids-then (suc n) c e q =
+      let d = numberField 4 1 0xFFFF_FFFF 4 xs c .next in
+      let r = reached (groupsEnd (id ∷ []) xs n) (λ k o. groups-stay xs k o (id ∷ []) n) d q in
+      (id-then [] c (r .0) (r .1), oids-then n d e q)
 
-  relations-then : (n : ℕ) (c : Cursor) (e : ℕ) → groupsEnd (id ∷ []) xs n c ≡ At e → AllNonZero (oidsAt n xs (positionOf c))
+  relations-then : (n : ℕ) (c : Cursor) (e : ℕ) → groupsEnd (id ∷ []) xs n c ≡ At e → AllNonZero (oidsAt n xs (At (positionOf c)))
   relations-then n c e q =
       let r = reached (groupsEnd (id ∷ []) xs n) (λ k o. groups-stay xs k o (id ∷ []) n) c q in
-      rw (r .1) (oids-then n (r .0) e (rw (r .1) at q))
+      rw (r .1) (oids-then n (At (r .0)) e (rw (r .1) at q))
 
   kind-formed : (k : Kind) (e : ℕ) → readFields b (layout k) xs (At 1) .next ≡ At e → Formed (eventOf (messageOf k (readFields b (layout k) xs (At 1) .parts)) xs)
   kind-formed begin e q = id-then [] _ e q

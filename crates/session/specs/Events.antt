@@ -1,8 +1,9 @@
 -- What the session's rules look at in a message: an event.
-use Prim.Native.Nat.{ℕ, zero, suc, _+_}
+use Prim.Native.Nat.{ℕ, zero, suc}
 use mathlib.Core.List.{List, [], _∷_}
 use mathlib.Core.Bool.{Bool}
 use lib.Dec.{eqb}
+use Rattle.wire.specs.declared.Cursor.{Cursor}
 use Rattle.wire.specs.declared.Cursor.the-variants.{At}
 use Rattle.wire.specs.Fields.{numberField}
 use Rattle.message.specs.declared.OldTuple.{OldTuple}
@@ -52,9 +53,9 @@ oldBefore (old.Key start) xs ts = tupleAt 0x4B xs start ∷ ts
 oldBefore (old.Full start) xs ts = tupleAt 0x4F xs start ∷ ts
 
 -- n OIDs, one after the other
-abbrev pub oidsAt : ℕ → List ℕ → ℕ → List ℕ
-oidsAt zero xs start = []
-oidsAt (suc n) xs start = numberField 4 1 0xFFFF_FFFF 4 xs (At start) .value ∷ oidsAt n xs (start + 4)
+abbrev pub oidsAt : ℕ → List ℕ → Cursor → List ℕ
+oidsAt zero xs c = []
+oidsAt (suc n) xs c = let f = numberField 4 1 0xFFFF_FFFF 4 xs c in f .value ∷ oidsAt n xs (f .next)
 
 abbrev pub eventOf : Message → List ℕ → Event
 eventOf (m.Begin r) xs = Begin (r .«final_lsn») (r .xid)
@@ -65,7 +66,7 @@ eventOf (m.«Type» r) xs = Neutral
 eventOf (m.Insert r) xs = Change (r .relation) (tupleAt 0x4E xs (r .tuple) ∷ [])
 eventOf (m.Update r) xs = Change (r .relation) (oldBefore (r .old) xs (tupleAt 0x4E xs (r .tuple) ∷ []))
 eventOf (m.Delete r) xs = Change (r .relation) (tupleAt (r .image) xs (r .tuple) ∷ [])
-eventOf (m.Truncate r) xs = Truncate (oidsAt (r .count) xs (r .relations))
+eventOf (m.Truncate r) xs = Truncate (oidsAt (r .count) xs (At (r .relations)))
 eventOf (m.Message r) xs = Neutral
 eventOf (m.StreamStart r) xs = StreamStart (r .xid) (eqb (r .first) 1)
 eventOf m.StreamStop xs = StreamStop
