@@ -79,8 +79,8 @@ text-clear : (ys : List ℕ) → member (take (untilZero ys) ys) 0 ≡ false
 text-clear ys =
     member-none (take (untilZero ys) ys)
     (λ i k e.
-       let l : i < untilZero ys = omega (arith, length-take-below (untilZero ys) ys) in
-       until-before ys i l (sym (getD-take (untilZero ys) ys i 0 l) ∙ e))
+    let l : i < untilZero ys = omega (arith, length-take-below (untilZero ys) ys) in
+    until-before ys i l (sym (getD-take (untilZero ys) ys i 0 l) ∙ e))
 
 -- the one letter of a set of one
 only-letter : (k x : ℕ) → member (k ∷ []) x ≡ true → k ≡ x
@@ -118,9 +118,10 @@ module _ (xs : List ℕ) (small : (i : ℕ) → getD xs i 0 < 256) (short : leng
   again-one p a k e j q h b =
       let l : a + (k - p .start) ≤ largest = omega arith in
       record {
-        ahead = omega arith; inside = h;
+        ahead = omega arith;
+        inside = h;
         accepted = rw (j, le-leb (a + (k - p .start)) largest l) (ap At (sym q));
-        spells = append-nil (p .bytes) ∙ b
+        spells = append-nil (p .bytes) ∙ b;
       }
 
   again-then : (ps qs : List Piece) (a m e : ℕ) → Again ps a m → Again qs m e → Again (ps ++ qs) a e
@@ -128,9 +129,10 @@ module _ (xs : List ℕ) (small : (i : ℕ) → getD xs i 0 < 256) (short : leng
       let i : e - a ≡ (m - a) + (e - m) = omega (arith, f .ahead, g .ahead) in
       let j : a + (m - a) ≡ m = omega (arith, f .ahead) in
       record {
-        ahead = omega (arith, f .ahead, g .ahead); inside = g .inside;
+        ahead = omega (arith, f .ahead, g .ahead);
+        inside = g .inside;
         accepted = steps-append ps qs (At a) ∙ ap (steps qs) (f .accepted) ∙ g .accepted;
-        spells = bytes-append ps qs ∙ rw (f .spells, g .spells, i, take-add (m - a) (e - m) (drop a xs), drop-drop, j)
+        spells = bytes-append ps qs ∙ rw (f .spells, g .spells, i, take-add (m - a) (e - m) (drop a xs), drop-drop, j);
       }
 
   number-again : (w low high n a e : ℕ) → numberField w low high n xs (At a) .next ≡ At e → Again (numberPiece w low high n (numberField w low high n xs (At a) .value) ∷ []) a e
@@ -164,7 +166,7 @@ module _ (xs : List ℕ) (small : (i : ℕ) → getD xs i 0 < 256) (short : leng
       let z : e - a ≡ suc u = omega (arith, i .1) in
       rw (text-read xs a u refl (i .0))
       (again-one (textPiece xs a u) a (u + 1) e (rw (le-leb (a + u) (length xs) l, text-clear (drop a xs))) (omega (arith, i .1)) (omega (arith, i .0, i .1))
-       (rw (z, take-suc (drop a xs) u 0, until-zero (drop a xs) k)))
+      (rw (z, take-suc (drop a xs) u 0, until-zero (drop a xs) k)))
 
   value-again : (a e : ℕ) → valueField xs (At a) .next ≡ At e → (let s = valueField xs (At a) .value in Again (lengthPiece (s .length) ∷ contentPiece xs (s .start) (s .length) ∷ []) a e)
   unfolding valueField bytesField
@@ -180,8 +182,8 @@ module _ (xs : List ℕ) (small : (i : ℕ) → getD xs i 0 < 256) (short : leng
       let z : e - (a + 4) ≡ n = omega (arith, j .1) in
       subst (λ (s : FieldSpan). Again (lengthPiece (s .value .length) ∷ contentPiece xs (s .value .start) (s .value .length) ∷ []) a e) (sym s)
       (again-then (lengthPiece n ∷ []) (contentPiece xs (a + 4) n ∷ []) a (a + 4) e
-       (again-one (lengthPiece n) a 4 (a + 4) refl (omega arith) (i .0) (rw y (digits-be 4 a (i .0))))
-       (again-one (contentPiece xs (a + 4) n) (a + 4) n e (rw (le-leb (a + 4 + n) (length xs) (j .0))) (omega (arith, j .1)) (omega (arith, j .0, j .1)) (rw z)))
+      (again-one (lengthPiece n) a 4 (a + 4) refl (omega arith) (i .0) (rw y (digits-be 4 a (i .0))))
+      (again-one (contentPiece xs (a + 4) n) (a + 4) n e (rw (le-leb (a + 4 + n) (length xs) (j .0))) (omega (arith, j .1)) (omega (arith, j .0, j .1)) (rw z)))
 
   section-again : (F : List ℕ → Cursor → Cursor) → Local F → (a e : ℕ) → a ≤ length xs → F xs (At a) ≡ At e → Again (sectionPiece xs a (F xs (At a)) ∷ []) a e
   section-again F f a e h q =
@@ -203,7 +205,7 @@ module _ (xs : List ℕ) (small : (i : ℕ) → getD xs i 0 < 256) (short : leng
       let g = field-again f a (m .0) h (m .1) in
       rw (append-assoc (readField f xs (At a) .values) (readGroup fs xs n .values) tail, first f xs (At a) (readGroup fs xs n .values ++ tail), rest f xs (At a) (readGroup fs xs n .values ++ tail))
       (again-then (fieldPieces f xs (readField f xs (At a) .values)) (groupPieces fs xs (readGroup fs xs n .values ++ tail)) a (m .0) e g
-       (subst (λ (c : Cursor). Again (groupPieces fs xs (readGroup fs xs c .values ++ tail)) (m .0) e) (sym (m .1)) (group-again fs tail (m .0) e (g .inside) (m .2))))
+      (subst (λ (c : Cursor). Again (groupPieces fs xs (readGroup fs xs c .values ++ tail)) (m .0) e) (sym (m .1)) (group-again fs tail (m .0) e (g .inside) (m .2))))
 
   groups-again :
       (b : Bool) (w low high : ℕ) (between fs : List Field) (a e : ℕ) → readGroups w low high between fs xs (At a) .next ≡ At e
@@ -225,16 +227,16 @@ module _ (xs : List ℕ) (small : (i : ℕ) → getD xs i 0 < 256) (short : leng
           let g = group-again between (m ∷ []) k m (f .inside) q in
           rw (p, q, behind between xs (At k) m)
           (again-then (numberPiece w low high 6 n ∷ []) (groupPieces between xs v ++ (sectionPiece xs m (groupsEnd fs xs n (At m)) ∷ [])) a k e f
-           (again-then (groupPieces between xs v) (sectionPiece xs m (groupsEnd fs xs n (At m)) ∷ []) k m e g
-            (section-again (λ ys c. groupsEnd fs ys n c) (groups-local fs n) m e (g .inside) r)))
+          (again-then (groupPieces between xs v) (sectionPiece xs m (groupsEnd fs xs n (At m)) ∷ []) k m e g
+          (section-again (λ ys c. groupsEnd fs ys n c) (groups-local fs n) m e (g .inside) r)))
 
   optional-again : (b : Bool) (set : List ℕ) (a e : ℕ) → a ≤ length xs → optional set xs (At a) .next ≡ At e → (let o = optional set xs (At a) in Again (oldPieces set xs (o .letter) (o .start)) a e)
   unfolding optional
   optional-again b set a e l =
       letter-cases set xs a
       (λ (k : Field8).
-         let o = cond {A = Optional} (eqb (k .value) 0) (record { letter = 0; start = 0; next = At a }) (record { letter = k .value; start = positionOf (k .next); next = tupleEnd xs (k .next) }) in
-         o .next ≡ At e → Again (oldPieces set xs (o .letter) (o .start)) a e)
+      let o = cond {A = Optional} (eqb (k .value) 0) (record { letter = 0; start = 0; next = At a }) (record { letter = k .value; start = positionOf (k .next); next = tupleEnd xs (k .next) }) in
+      o .next ≡ At e → Again (oldPieces set xs (o .letter) (o .start)) a e)
       (λ k q. nothing q) (λ h i. go h i (eqb (getD xs a 0) 0) refl)
     where
       nothing : At a ≡ At e → Again [] a e
@@ -243,13 +245,13 @@ module _ (xs : List ℕ) (small : (i : ℕ) → getD xs i 0 < 256) (short : leng
       go :
           a < length xs → member set (getD xs a 0) ≡ true → (t : Bool) → eqb (getD xs a 0) 0 ≡ t
           → (let o = cond {A = Optional} t (record { letter = 0; start = 0; next = At a }) (record { letter = getD xs a 0; start = a + 1; next = tupleEnd xs (At (a + 1)) }) in
-             o .next ≡ At e → Again (oldPieces set xs (o .letter) (o .start)) a e)
+          o .next ≡ At e → Again (oldPieces set xs (o .letter) (o .start)) a e)
       go h i true f q = nothing q
       go h i false f q =
           let k = getD xs a 0 in
           rw f
           (again-then (letterPiece set k ∷ []) (tuplePiece xs (a + 1) ∷ []) a (a + 1) e (byte-again a k (tested (member set k) 1 4) (rw i) h refl (a + 1) refl)
-           (section-again tupleEnd tuple-local (a + 1) e (omega arith) q))
+          (section-again tupleEnd tuple-local (a + 1) e (omega arith) q))
 
   part-again : (b : Bool) (p : Part) (a e : ℕ) → a ≤ length xs → readPart b p xs (At a) .next ≡ At e → Again (partPieces b p xs (readPart b p xs (At a) .values)) a e
   unfolding xidField

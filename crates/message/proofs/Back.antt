@@ -149,7 +149,7 @@ module _ (src xs : List ℕ) (a : ℕ) (post : List ℕ) where
       let l : a + length t + 1 ≡ a + length ((t ++ (0 ∷ [])) ++ []) = omega (arith, length-append (t ++ (0 ∷ [])) [], length-append t (0 ∷ [])) in
       record {
         ends = ap (λ (f : FieldSpan). f .next) e ∙ ap At l;
-        says = ap (λ (f : FieldSpan). bytes (cut xs (f .value .start) (f .value .length)) ∷ []) e ∙ ap (λ (b : List ℕ). bytes b ∷ []) (from-cut t ((0 ∷ []) ++ post) (from-first t (0 ∷ []) post i))
+        says = ap (λ (f : FieldSpan). bytes (cut xs (f .value .start) (f .value .length)) ∷ []) e ∙ ap (λ (b : List ℕ). bytes b ∷ []) (from-cut t ((0 ∷ []) ++ post) (from-first t (0 ∷ []) post i));
       }
   field-reads value v c g h =
       let s = getD v 0 0 in
@@ -167,7 +167,7 @@ module _ (src xs : List ℕ) (a : ℕ) (post : List ℕ) where
       record {
         ends = ap (λ (f : FieldSpan). f .next) e ∙ ap At r;
         says = ap (λ (f : FieldSpan). bytes (cut xs (f .value .start) (f .value .length)) ∷ []) e
-          ∙ ap (λ (b : List ℕ). bytes b ∷ []) (ap (λ (m : ℕ). cut xs (a + 4) m) (sym k) ∙ ap (λ (m : ℕ). cut xs m (length t)) (sym p) ∙ from-cut t post next)
+            ∙ ap (λ (b : List ℕ). bytes b ∷ []) (ap (λ (m : ℕ). cut xs (a + 4) m) (sym k) ∙ ap (λ (m : ℕ). cut xs m (length t)) (sym p) ∙ from-cut t post next);
       }
   field-reads column v c g h =
       let s = getD v 0 0 in
@@ -175,7 +175,7 @@ module _ (src xs : List ℕ) (a : ℕ) (post : List ℕ) where
       let i = from-first t [] post h in
       record {
         ends = section-ends columnEnd column-local src s (g .0 .0) (g .0 .1) xs a post i ∙ rw (append-nil t);
-        says = ap (λ (b : List ℕ). bytes b ∷ []) (section-says columnEnd column-local src s (g .0 .0) (g .0 .1) xs a post i)
+        says = ap (λ (b : List ℕ). bytes b ∷ []) (section-says columnEnd column-local src s (g .0 .0) (g .0 .1) xs a post i);
       }
 
 module _ (src xs : List ℕ) where
@@ -200,8 +200,8 @@ module _ (src xs : List ℕ) where
       record {
         ends = ap (λ (d : Cursor). readGroup fs xs d .next) (r .ends) ∙ again .ends ∙ ap At l;
         says =
-          rw (append-assoc (readField f xs (At a) .values) (readGroup fs xs n .values) tail, first f xs (At a) (readGroup fs xs n .values ++ tail), rest f xs (At a) (readGroup fs xs n .values ++ tail), r .says)
-          (ap (λ (d : Cursor). fieldSays f src u ++ groupSays fs xs (readGroup fs xs d .values ++ tail)) (r .ends) ∙ ap (λ (s : List Content). fieldSays f src u ++ s) (again .says))
+            rw (append-assoc (readField f xs (At a) .values) (readGroup fs xs n .values) tail, first f xs (At a) (readGroup fs xs n .values ++ tail), rest f xs (At a) (readGroup fs xs n .values ++ tail), r .says)
+            (ap (λ (d : Cursor). fieldSays f src u ++ groupSays fs xs (readGroup fs xs d .values ++ tail)) (r .ends) ∙ ap (λ (s : List Content). fieldSays f src u ++ s) (again .says));
       }
 
 letter-not : (set xs : List ℕ) (a : ℕ) → member set (getD xs a 0) ≡ false → (t : Bool) → ltb a (length xs) ≡ t → letterField set xs (At a) .value ≡ 0
@@ -247,16 +247,16 @@ module _ (b : Bool) (src xs : List ℕ) (a : ℕ) (post : List ℕ) where
       let at : p ≡ a₂ = ap positionOf (r .ends) in
       record {
         ends = ap (λ (f : Field64). groupsEnd fs xs (f .value) (readGroup between xs (f .next) .next)) e
-          ∙ ap (groupsEnd fs xs n) (r .ends) ∙ end ∙ ap At l;
+            ∙ ap (groupsEnd fs xs n) (r .ends) ∙ end ∙ ap At l;
         says = ap
             (λ (f : Field64).
-               let s = readGroup between xs (f .next) in
-               let at = getD (s .values ++ (positionOf (s .next) ∷ [])) (arities between) 0 in
-               num (f .value) ∷ groupSays between xs (s .values ++ (positionOf (s .next) ∷ [])) ++ (bytes (fromTo xs at (groupsEnd fs xs (f .value) (At at))) ∷ []))
+            let s = readGroup between xs (f .next) in
+            let at = getD (s .values ++ (positionOf (s .next) ∷ [])) (arities between) 0 in
+            num (f .value) ∷ groupSays between xs (s .values ++ (positionOf (s .next) ∷ [])) ++ (bytes (fromTo xs at (groupsEnd fs xs (f .value) (At at))) ∷ []))
             e
-          ∙ ap (λ (z : ℕ). num n ∷ groupSays between xs (readGroup between xs (At a₁) .values ++ (p ∷ [])) ++ (bytes (fromTo xs z (groupsEnd fs xs n (At z))) ∷ [])) (behind between xs (At a₁) p ∙ at)
-          ∙ ap (λ (s : List Content). num n ∷ s ++ (bytes (fromTo xs a₂ (groupsEnd fs xs n (At a₂))) ∷ [])) (r .says)
-          ∙ ap (λ (s : List ℕ). num n ∷ groupSays between src (drop 1 v) ++ (bytes s ∷ [])) said
+            ∙ ap (λ (z : ℕ). num n ∷ groupSays between xs (readGroup between xs (At a₁) .values ++ (p ∷ [])) ++ (bytes (fromTo xs z (groupsEnd fs xs n (At z))) ∷ [])) (behind between xs (At a₁) p ∙ at)
+            ∙ ap (λ (s : List Content). num n ∷ s ++ (bytes (fromTo xs a₂ (groupsEnd fs xs n (At a₂))) ∷ [])) (r .says)
+            ∙ ap (λ (s : List ℕ). num n ∷ groupSays between src (drop 1 v) ++ (bytes s ∷ [])) said;
       }
 
   -- an old tuple that is there or, where t says so, is not
@@ -266,7 +266,7 @@ module _ (b : Bool) (src xs : List ℕ) (a : ℕ) (post : List ℕ) where
   optional-read :
       (set : List ℕ) (l s : ℕ) → Clear (optionalTuple set) post → (t : Bool) → eqb l 0 ≡ t → AllGood (OldPieces set l s t) → From xs a (bytesOf (OldPieces set l s t)) post
       → (let o = optional set xs (At a) in
-         Reads (o .next) (partSays (optionalTuple set) xs (o .letter ∷ o .start ∷ [])) (num l ∷ cond t [] (bytes (fromTo src s (tupleEnd src (At s))) ∷ [])) a (bytesOf (OldPieces set l s t)))
+      Reads (o .next) (partSays (optionalTuple set) xs (o .letter ∷ o .start ∷ [])) (num l ∷ cond t [] (bytes (fromTo src s (tupleEnd src (At s))) ∷ [])) a (bytesOf (OldPieces set l s t)))
   unfolding optional
   optional-read set l s c true e g h =
       let k : l ≡ 0 = eqb-true l 0 e in
@@ -289,8 +289,8 @@ module _ (b : Bool) (src xs : List ℕ) (a : ℕ) (post : List ℕ) where
       record {
         ends = ap (λ (o : Optional). o .next) o ∙ end ∙ ap At n;
         says = ap (λ (o : Optional). partSays (optionalTuple set) xs (o .letter ∷ o .start ∷ [])) o
-          ∙ ap (λ (x : Bool). num l ∷ cond x [] (bytes (fromTo xs (a + 1) (tupleEnd xs (At (a + 1)))) ∷ [])) e
-          ∙ ap (λ (x : List ℕ). num l ∷ bytes x ∷ []) said
+            ∙ ap (λ (x : Bool). num l ∷ cond x [] (bytes (fromTo xs (a + 1) (tupleEnd xs (At (a + 1)))) ∷ [])) e
+            ∙ ap (λ (x : List ℕ). num l ∷ bytes x ∷ []) said;
       }
 
   part-reads : (p : Part) (ps : List Part) (v : List ℕ) → FinePart p ps → AllGood (partPieces b p src v) → Clear p post → From xs a (bytesOf (partPieces b p src v)) post → PartReads b p src v xs a
@@ -311,7 +311,7 @@ module _ (b : Bool) (src xs : List ℕ) (a : ℕ) (post : List ℕ) where
       let i = from-first t [] post h in
       record {
         ends = section-ends tupleEnd tuple-local src s (g .0 .0) (g .0 .1) xs a post i ∙ rw (append-nil t);
-        says = ap (λ (x : List ℕ). bytes x ∷ []) (section-says tupleEnd tuple-local src s (g .0 .0) (g .0 .1) xs a post i)
+        says = ap (λ (x : List ℕ). bytes x ∷ []) (section-says tupleEnd tuple-local src s (g .0 .0) (g .0 .1) xs a post i);
       }
   part-reads (optionalTuple set) ps v c g k h = optional-read set (getD v 0 0) (getD v 1 0) k (eqb (getD v 0 0) 0) refl g h
 
@@ -356,5 +356,5 @@ layout-reads b src xs (p ∷ ps) vs a post c g h =
     let l : a + length bs + length cs ≡ a + length (bytesOf (us ++ ws)) = omega (arith, length-append bs cs, ap length (bytes-append us ws)) in
     record {
       ends = ap (λ (d : Cursor). readFields b ps xs d .next) (r .ends) ∙ again .ends ∙ ap At l;
-      says = rw (r .says) (ap (λ (d : Cursor). partSays p src v ++ layoutSays ps xs (readFields b ps xs d .parts)) (r .ends) ∙ ap (λ (s : List Content). partSays p src v ++ s) (again .says))
+      says = rw (r .says) (ap (λ (d : Cursor). partSays p src v ++ layoutSays ps xs (readFields b ps xs d .parts)) (r .ends) ∙ ap (λ (s : List Content). partSays p src v ++ s) (again .says));
     }

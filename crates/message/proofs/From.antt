@@ -34,7 +34,7 @@ module _ {xs : List ℕ} {a : ℕ} where
   from-next bs cs post f =
       record {
         at = omega (arith, from-length bs (cs ++ post) f);
-        is = sym (drop-drop (length bs) a xs) ∙ ap (drop (length bs)) (f .is) ∙ drop-append-seam bs (cs ++ post)
+        is = sym (drop-drop (length bs) a xs) ∙ ap (drop (length bs)) (f .is) ∙ drop-append-seam bs (cs ++ post);
       }
 
   pub from-cut : (bs post : List ℕ) → From xs a bs post → cut xs a (length bs) ≡ bs
@@ -54,7 +54,7 @@ module _ {xs : List ℕ} {a : ℕ} where
       record {
         here = h;
         there = omega (arith, from-length (cut src s n) post f);
-        same = λ i j. from-get (cut src s n) post f i (omega arith) ∙ getD-take n (drop s src) i 0 j ∙ getD-drop s src i 0
+        same = λ i j. from-get (cut src s n) post f i (omega arith) ∙ getD-take n (drop s src) i 0 j ∙ getD-drop s src i 0;
       }
 
 -- THE FIELDS

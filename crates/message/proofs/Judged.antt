@@ -119,10 +119,11 @@ group-sound (f ∷ fs) src v = sound-append (fieldPieces f src (take (arity f) v
 pub part-sound : (b : Bool) (p : Part) (src v : List ℕ) → AllSound (partPieces b p src v)
 part-sound b (one f) src v = field-sound f src v
 part-sound b blockXid src v = (xid-sound b (getD v 0 0), tt)
-part-sound b (groups w low high between fs) src v =
-    (number-sound w low high 6 (getD v 0 0),
-     sound-append (groupPieces between src (drop 1 v)) _ (group-sound between src (drop 1 v))
-     (section-sound (λ xs c. groupsEnd fs xs (getD v 0 0) c) (groups-local fs (getD v 0 0)) src (getD (drop 1 v) (arities between) 0), tt))
+part-sound b (groups w low high between fs) src v = (
+  number-sound w low high 6 (getD v 0 0),
+  sound-append (groupPieces between src (drop 1 v)) _ (group-sound between src (drop 1 v))
+      (section-sound (λ xs c. groupsEnd fs xs (getD v 0 0) c) (groups-local fs (getD v 0 0)) src (getD (drop 1 v) (arities between) 0), tt),
+)
 part-sound b tuple src v = (section-sound tupleEnd tuple-local src (getD v 0 0), tt)
 part-sound b (optionalTuple set) src v = go (eqb (getD v 0 0) 0)
   where

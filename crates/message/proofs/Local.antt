@@ -34,9 +34,9 @@ module _ {xs ys : List ℕ} {a b : ℕ} where
         here = omega (arith, g .here);
         there = omega (arith, g .there);
         same = λ i l.
-          let e : a′ + i ≡ a + (m + i) = omega arith in
-          let f : b′ + i ≡ b + (m + i) = omega arith in
-          rw (e, f) (g .same (m + i) (omega arith))
+            let e : a′ + i ≡ a + (m + i) = omega arith in
+            let f : b′ + i ≡ b + (m + i) = omega arith in
+            rw (e, f) (g .same (m + i) (omega arith));
       }
 
   pub cut-same : (n : ℕ) → Agree xs a ys b n → cut ys b n ≡ cut xs a n
@@ -83,7 +83,7 @@ local-none =
       ahead = λ xs a e q. let p : a ≡ e = cc in omega arith;
       late = λ xs a n o q. no q refl;
       inside = λ xs a e q. let p : a ≡ e = cc in omega arith;
-      moves = λ xs ys a b e q g. let p : a ≡ e = cc in let z : b + (e - a) ≡ b = omega arith in rw z
+      moves = λ xs ys a b e q g. let p : a ≡ e = cc in let z : b + (e - a) ≡ b = omega arith in rw z;
     }
 
 pub local-then : (F G : List ℕ → Cursor → Cursor) → Local F → Local G → Local (λ xs c. G xs (F xs c))
@@ -91,20 +91,20 @@ local-then F G f g =
     record {
       stays = λ xs n o. ap (G xs) (f .stays xs n o) ∙ g .stays xs n o;
       ahead = λ xs a e q.
-        let m = through (G xs) (g .stays xs) (F xs (At a)) e q in
-        omega (arith, f .ahead xs a (m .0) (m .1), g .ahead xs (m .0) e (m .2));
+          let m = through (G xs) (g .stays xs) (F xs (At a)) e q in
+          omega (arith, f .ahead xs a (m .0) (m .1), g .ahead xs (m .0) e (m .2));
       late = λ xs a n o q. late-by (G xs) (g .stays xs) (g .late xs) a (F xs (At a)) (f .ahead xs a) (f .late xs a) n o q;
       inside = λ xs a e q.
-        let m = through (G xs) (g .stays xs) (F xs (At a)) e q in
-        omega (arith, f .ahead xs a (m .0) (m .1), g .ahead xs (m .0) e (m .2), f .inside xs a (m .0) (m .1), g .inside xs (m .0) e (m .2));
+          let m = through (G xs) (g .stays xs) (F xs (At a)) e q in
+          omega (arith, f .ahead xs a (m .0) (m .1), g .ahead xs (m .0) e (m .2), f .inside xs a (m .0) (m .1), g .inside xs (m .0) e (m .2));
       moves = λ xs ys a b e q h.
-        let m = through (G xs) (g .stays xs) (F xs (At a)) e q in
-        let p : a ≤ m .0 = f .ahead xs a (m .0) (m .1) in
-        let r : m .0 ≤ e = g .ahead xs (m .0) e (m .2) in
-        let s : b + (m .0 - a) + (e - m .0) ≡ b + (e - a) = omega arith in
-        ap (G ys) (f .moves xs ys a b (m .0) (m .1) (fewer (e - a) (m .0 - a) (omega arith) h))
-        ∙ g .moves xs ys (m .0) (b + (m .0 - a)) e (m .2) (beyond (e - a) (m .0 - a) (e - m .0) (m .0) (b + (m .0 - a)) (omega arith) (omega arith) refl h)
-        ∙ ap At s
+          let m = through (G xs) (g .stays xs) (F xs (At a)) e q in
+          let p : a ≤ m .0 = f .ahead xs a (m .0) (m .1) in
+          let r : m .0 ≤ e = g .ahead xs (m .0) e (m .2) in
+          let s : b + (m .0 - a) + (e - m .0) ≡ b + (e - a) = omega arith in
+          ap (G ys) (f .moves xs ys a b (m .0) (m .1) (fewer (e - a) (m .0 - a) (omega arith) h))
+          ∙ g .moves xs ys (m .0) (b + (m .0 - a)) e (m .2) (beyond (e - a) (m .0 - a) (e - m .0) (m .0) (b + (m .0 - a)) (omega arith) (omega arith) refl h)
+          ∙ ap At s;
     }
 
 pub number-local : (w low high n : ℕ) → Local (λ xs c. numberField w low high n xs c .next)
@@ -116,10 +116,10 @@ number-local w low high n =
       late = λ xs a k o q. omega (arith, number-off w low high n xs a k o q);
       inside = λ xs a e q. omega (arith, number-inv w low high n xs a e q .2, number-inv w low high n xs a e q .0);
       moves = λ xs ys a b e q g.
-        let i = number-inv w low high n xs a e q in
-        let z : e - a ≡ w = omega (arith, i .2) in
-        let h : Agree xs a ys b w = rw z at g in
-        rw (z, number-read w low high n ys b (h .there) (ap (inRange low high) (be-same w h) ∙ i .1))
+          let i = number-inv w low high n xs a e q in
+          let z : e - a ≡ w = omega (arith, i .2) in
+          let h : Agree xs a ys b w = rw z at g in
+          rw (z, number-read w low high n ys b (h .there) (ap (inRange low high) (be-same w h) ∙ i .1));
     }
 
 pub letter-local : (set : List ℕ) → Local (λ xs c. letterField set xs c .next)
@@ -131,11 +131,11 @@ letter-local set =
       late = λ xs a k o q. omega (arith, letter-off set xs a k o q);
       inside = λ xs a e q. omega (arith, letter-inv set xs a e q .2, letter-inv set xs a e q .0);
       moves = λ xs ys a b e q g.
-        let i = letter-inv set xs a e q in
-        let z : e - a ≡ 1 = omega (arith, i .2) in
-        let h : Agree xs a ys b 1 = rw z at g in
-        let s : getD ys b 0 ≡ getD xs a 0 = same-byte xs ys a b h in
-        rw (z, letter-read set ys b (omega (arith, h .there)) (ap (member set) s ∙ i .1))
+          let i = letter-inv set xs a e q in
+          let z : e - a ≡ 1 = omega (arith, i .2) in
+          let h : Agree xs a ys b 1 = rw z at g in
+          let s : getD ys b 0 ≡ getD xs a 0 = same-byte xs ys a b h in
+          rw (z, letter-read set ys b (omega (arith, h .there)) (ap (member set) s ∙ i .1));
     }
   where
     same-byte : (xs ys : List ℕ) (a b : ℕ) → Agree xs a ys b 1 → getD ys b 0 ≡ getD xs a 0
@@ -150,17 +150,17 @@ text-local =
       late = λ xs a k o q. omega (arith, text-off xs a k o q);
       inside = λ xs a e q. omega (arith, text-inv xs a e q .1, text-inv xs a e q .0);
       moves = λ xs ys a b e q g.
-        let i = text-inv xs a e q in
-        let u = untilZero (drop a xs) in
-        let z : e - a ≡ u + 1 = omega (arith, i .1) in
-        let h : Agree xs a ys b (u + 1) = rw z at g in
-        let s : b + u + 1 ≡ b + (u + 1) = omega arith in
-        let l : u < length (drop a xs) = simp length-drop (omega (arith, i .0)) in
-        let k : u < length (drop b ys) = simp length-drop (omega (arith, h .there)) in
-        let there : untilZero (drop b ys) ≡ u =
+          let i = text-inv xs a e q in
+          let u = untilZero (drop a xs) in
+          let z : e - a ≡ u + 1 = omega (arith, i .1) in
+          let h : Agree xs a ys b (u + 1) = rw z at g in
+          let s : b + u + 1 ≡ b + (u + 1) = omega arith in
+          let l : u < length (drop a xs) = simp length-drop (omega (arith, i .0)) in
+          let k : u < length (drop b ys) = simp length-drop (omega (arith, h .there)) in
+          let there : untilZero (drop b ys) ≡ u =
           until-is (drop b ys) u k (rw getD-drop (h .same u (omega arith)) ∙ sym (getD-drop a xs u 0) ∙ until-zero (drop a xs) l)
           (λ j m o. until-before (drop a xs) j m (getD-drop a xs j 0 ∙ sym (h .same j (omega arith)) ∙ sym (getD-drop b ys j 0) ∙ o)) in
-        rw (text-read ys b u there (omega (arith, h .there)), z, s)
+          rw (text-read ys b u there (omega (arith, h .there)), z, s);
     }
 
 pub bytes-local : (n : ℕ) → Local (λ xs c. bytesField n xs c .next)
@@ -172,10 +172,10 @@ bytes-local n =
       late = λ xs a k o q. omega (arith, bytes-off xs a n k o q);
       inside = λ xs a e q. omega (arith, bytes-inv xs a n e q .1, bytes-inv xs a n e q .0);
       moves = λ xs ys a b e q g.
-        let i = bytes-inv xs a n e q in
-        let z : e - a ≡ n = omega (arith, i .1) in
-        let h : Agree xs a ys b n = rw z at g in
-        rw (z, bytes-read ys b n (h .there))
+          let i = bytes-inv xs a n e q in
+          let z : e - a ≡ n = omega (arith, i .1) in
+          let h : Agree xs a ys b n = rw z at g in
+          rw (z, bytes-read ys b n (h .there));
     }
 
 -- a number read elsewhere is the same number
@@ -200,24 +200,24 @@ module _ (w low high n : ℕ) (G : ℕ → List ℕ → Cursor → Cursor) (g : 
       record {
         stays = λ xs n o. g 0 .stays xs n o;
         ahead = λ xs a e q.
-          let k = numberField w low high n xs (At a) .value in
-          let m = through (G k xs) (g k .stays xs) (numberField w low high n xs (At a) .next) e q in
-          omega (arith, number-inv w low high n xs a (m .0) (m .1) .2, g k .ahead xs (m .0) e (m .2));
+            let k = numberField w low high n xs (At a) .value in
+            let m = through (G k xs) (g k .stays xs) (numberField w low high n xs (At a) .next) e q in
+            omega (arith, number-inv w low high n xs a (m .0) (m .1) .2, g k .ahead xs (m .0) e (m .2));
         late = λ xs a m o q.
-          let k = numberField w low high n xs (At a) .value in
-          late-by (G k xs) (g k .stays xs) (g k .late xs) a (numberField w low high n xs (At a) .next) (number-local w low high n .ahead xs a) (number-local w low high n .late xs a) m o q;
+            let k = numberField w low high n xs (At a) .value in
+            late-by (G k xs) (g k .stays xs) (g k .late xs) a (numberField w low high n xs (At a) .next) (number-local w low high n .ahead xs a) (number-local w low high n .late xs a) m o q;
         inside = λ xs a e q.
-          let k = numberField w low high n xs (At a) .value in
-          let m = through (G k xs) (g k .stays xs) (numberField w low high n xs (At a) .next) e q in
-          omega (arith, number-inv w low high n xs a (m .0) (m .1) .0, number-inv w low high n xs a (m .0) (m .1) .2, g k .ahead xs (m .0) e (m .2), g k .inside xs (m .0) e (m .2));
+            let k = numberField w low high n xs (At a) .value in
+            let m = through (G k xs) (g k .stays xs) (numberField w low high n xs (At a) .next) e q in
+            omega (arith, number-inv w low high n xs a (m .0) (m .1) .0, number-inv w low high n xs a (m .0) (m .1) .2, g k .ahead xs (m .0) e (m .2), g k .inside xs (m .0) e (m .2));
         moves = λ xs ys a b e q h.
-          let k = numberField w low high n xs (At a) .value in
-          let m = through (G k xs) (g k .stays xs) (numberField w low high n xs (At a) .next) e q in
-          let p : a ≤ m .0 = omega (arith, number-inv w low high n xs a (m .0) (m .1) .2) in
-          let r : m .0 ≤ e = g k .ahead xs (m .0) e (m .2) in
-          let s : b + (m .0 - a) + (e - m .0) ≡ b + (e - a) = omega arith in
-          let f = number-moves w low high n xs ys a b (m .0) (m .1) (fewer (e - a) (m .0 - a) (omega arith) h) in
-          rw (f .0, f .1) (g k .moves xs ys (m .0) (b + (m .0 - a)) e (m .2) (beyond (e - a) (m .0 - a) (e - m .0) (m .0) (b + (m .0 - a)) (omega arith) (omega arith) refl h) ∙ ap At s)
+            let k = numberField w low high n xs (At a) .value in
+            let m = through (G k xs) (g k .stays xs) (numberField w low high n xs (At a) .next) e q in
+            let p : a ≤ m .0 = omega (arith, number-inv w low high n xs a (m .0) (m .1) .2) in
+            let r : m .0 ≤ e = g k .ahead xs (m .0) e (m .2) in
+            let s : b + (m .0 - a) + (e - m .0) ≡ b + (e - a) = omega arith in
+            let f = number-moves w low high n xs ys a b (m .0) (m .1) (fewer (e - a) (m .0 - a) (omega arith) h) in
+            rw (f .0, f .1) (g k .moves xs ys (m .0) (b + (m .0 - a)) e (m .2) (beyond (e - a) (m .0 - a) (e - m .0) (m .0) (b + (m .0 - a)) (omega arith) (omega arith) refl h) ∙ ap At s);
       }
 
 pub value-local : Local (λ xs c. valueField xs c .next)
@@ -238,30 +238,30 @@ module _ (set : List ℕ) (G : ℕ → List ℕ → Cursor → Cursor) (g : (k :
       record {
         stays = λ xs n o. g 0 .stays xs n o;
         ahead = λ xs a e q.
-          let k = letterField set xs (At a) .value in
-          let m = through (G k xs) (g k .stays xs) (letterField set xs (At a) .next) e q in
-          omega (arith, letter-inv set xs a (m .0) (m .1) .2, g k .ahead xs (m .0) e (m .2));
+            let k = letterField set xs (At a) .value in
+            let m = through (G k xs) (g k .stays xs) (letterField set xs (At a) .next) e q in
+            omega (arith, letter-inv set xs a (m .0) (m .1) .2, g k .ahead xs (m .0) e (m .2));
         late = λ xs a m o q.
-          let k = letterField set xs (At a) .value in
-          late-by (G k xs) (g k .stays xs) (g k .late xs) a (letterField set xs (At a) .next) (letter-local set .ahead xs a) (letter-local set .late xs a) m o q;
+            let k = letterField set xs (At a) .value in
+            late-by (G k xs) (g k .stays xs) (g k .late xs) a (letterField set xs (At a) .next) (letter-local set .ahead xs a) (letter-local set .late xs a) m o q;
         inside = λ xs a e q.
-          let k = letterField set xs (At a) .value in
-          let m = through (G k xs) (g k .stays xs) (letterField set xs (At a) .next) e q in
-          omega (arith, letter-inv set xs a (m .0) (m .1) .0, letter-inv set xs a (m .0) (m .1) .2, g k .ahead xs (m .0) e (m .2), g k .inside xs (m .0) e (m .2));
+            let k = letterField set xs (At a) .value in
+            let m = through (G k xs) (g k .stays xs) (letterField set xs (At a) .next) e q in
+            omega (arith, letter-inv set xs a (m .0) (m .1) .0, letter-inv set xs a (m .0) (m .1) .2, g k .ahead xs (m .0) e (m .2), g k .inside xs (m .0) e (m .2));
         moves = λ xs ys a b e q h.
-          let k = letterField set xs (At a) .value in
-          let m = through (G k xs) (g k .stays xs) (letterField set xs (At a) .next) e q in
-          let i = letter-inv set xs a (m .0) (m .1) in
-          let p : m .0 ≡ a + 1 = i .2 in
-          let r : m .0 ≤ e = g k .ahead xs (m .0) e (m .2) in
-          let s : b + (m .0 - a) + (e - m .0) ≡ b + (e - a) = omega arith in
-          let same : getD ys b 0 ≡ getD xs a 0 = same-byte xs ys a b (e - a) (omega arith) h in
-          let f = letter-read set ys b (omega (arith, h .there)) (ap (member set) same ∙ i .1) in
-          let o = letter-read set xs a (i .0) (i .1) in
-          let v : letterField set ys (At b) .value ≡ k = ap (λ (f : Field8). f .value) f ∙ same ∙ sym (ap (λ (f : Field8). f .value) o) in
-          let t : b + 1 ≡ b + (m .0 - a) = omega arith in
-          let w : letterField set ys (At b) .next ≡ At (b + (m .0 - a)) = ap (λ (f : Field8). f .next) f ∙ ap At t in
-          rw (v, w) (g k .moves xs ys (m .0) (b + (m .0 - a)) e (m .2) (beyond (e - a) (m .0 - a) (e - m .0) (m .0) (b + (m .0 - a)) (omega arith) (omega arith) refl h) ∙ ap At s)
+            let k = letterField set xs (At a) .value in
+            let m = through (G k xs) (g k .stays xs) (letterField set xs (At a) .next) e q in
+            let i = letter-inv set xs a (m .0) (m .1) in
+            let p : m .0 ≡ a + 1 = i .2 in
+            let r : m .0 ≤ e = g k .ahead xs (m .0) e (m .2) in
+            let s : b + (m .0 - a) + (e - m .0) ≡ b + (e - a) = omega arith in
+            let same : getD ys b 0 ≡ getD xs a 0 = same-byte xs ys a b (e - a) (omega arith) h in
+            let f = letter-read set ys b (omega (arith, h .there)) (ap (member set) same ∙ i .1) in
+            let o = letter-read set xs a (i .0) (i .1) in
+            let v : letterField set ys (At b) .value ≡ k = ap (λ (f : Field8). f .value) f ∙ same ∙ sym (ap (λ (f : Field8). f .value) o) in
+            let t : b + 1 ≡ b + (m .0 - a) = omega arith in
+            let w : letterField set ys (At b) .next ≡ At (b + (m .0 - a)) = ap (λ (f : Field8). f .next) f ∙ ap At t in
+            rw (v, w) (g k .moves xs ys (m .0) (b + (m .0 - a)) e (m .2) (beyond (e - a) (m .0 - a) (e - m .0) (m .0) (b + (m .0 - a)) (omega arith) (omega arith) refl h) ∙ ap At s);
       }
 
 pub column-local : Local columnEnd

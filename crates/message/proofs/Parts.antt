@@ -64,13 +64,13 @@ old-back xs c = go (letterField keyOrOld xs c .value) (letterField keyOrOld xs c
     go :
         (l : ℕ) (d : Cursor) → ((l ≡ 0 → ⊥) → member keyOrOld l ≡ true)
         → (let o = cond {A = Optional} (eqb l 0) (record { letter = 0; start = 0; next = c }) (record { letter = l; start = positionOf d; next = tupleEnd xs d }) in
-           oldNumbers (oldTuple (o .letter) (o .start)) ≡ o .letter ∷ o .start ∷ [])
+        oldNumbers (oldTuple (o .letter) (o .start)) ≡ o .letter ∷ o .start ∷ [])
     go l d h = test (eqb l 0) refl
       where
         test :
             (t : Bool) → eqb l 0 ≡ t
             → (let o = cond {A = Optional} t (record { letter = 0; start = 0; next = c }) (record { letter = l; start = positionOf d; next = tupleEnd xs d }) in
-               oldNumbers (oldTuple (o .letter) (o .start)) ≡ o .letter ∷ o .start ∷ [])
+            oldNumbers (oldTuple (o .letter) (o .start)) ≡ o .letter ∷ o .start ∷ [])
         test true e = refl
         test false e = letters-back l (positionOf d) (h (eqb-false l 0 e))
 

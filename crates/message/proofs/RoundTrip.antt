@@ -55,8 +55,8 @@ write-after-read v b xs small m q =
     let p : kindOfMessage m ≡ k = ap kindOfMessage (a .message) ∙ kind-back k (r .parts) in
     short v b m xs
     ∙ rw (a .allowed, p, a .has)
-      (spelled b xs small there (a .short) m k (r .parts) p (ap partsOf (a .message) ∙ parts-back k b xs) (letter-of (getD xs 0 0) k (a .letter))
-       (layout-again xs small (a .short) b (layout k) 1 (length xs) there (a .ends)))
+    (spelled b xs small there (a .short) m k (r .parts) p (ap partsOf (a .message) ∙ parts-back k b xs) (letter-of (getD xs 0 0) k (a .letter))
+    (layout-again xs small (a .short) b (layout k) 1 (length xs) there (a .ends)))
 
 -- READ AFTER WRITE
 
@@ -103,12 +103,13 @@ module _ (b : Bool) (m : Message) (src : List ℕ) (good : AllGood (layoutPieces
   unfolding readKind
   kind-read =
       let r = layout-reads b src ys (layout k) (partsOf m) 1 [] (fine k) good (record { at = omega arith; is = sym (append-nil fields) }) in
-      let n : 1 + length fields ≡ length ys = omega arith in
-      (rw (r .ends, eq-eqb (1 + length fields) (length ys) n),
-       record {
-         kind = kind-back k parts;
-         says = says ys (messageOf k parts) ∙ rw (kind-back k parts, parts-back k b ys) (r .says) ∙ sym (says src m)
-       })
+      let n : 1 + length fields ≡ length ys = omega arith in (
+        rw (r .ends, eq-eqb (1 + length fields) (length ys) n),
+        record {
+          kind = kind-back k parts;
+          says = says ys (messageOf k parts) ∙ rw (kind-back k parts, parts-back k b ys) (r .says) ∙ sym (says src m);
+        },
+      )
 
 by-kind :
     (v : Version) (b : Bool) (xs : List ℕ) (k : Kind) (m : Message) → not (versionAllows v b) ≡ false → length xs ≤ largest → (length xs ≡ 0 → ⊥) → kindOf (getD xs 0 0) ≡ some k → not (versionHas v (some k)) ≡ false

@@ -41,7 +41,7 @@ lays-then : (G H : Writing → Writing) (ps qs : List Piece) → AllSound ps →
 lays-then G H ps qs sound g h =
     record {
       stays = λ n o. ap H (g .stays n o) ∙ h .stays n o;
-      lays = λ bs l. go bs l (steps ps (At (length bs))) refl
+      lays = λ bs l. go bs l (steps ps (At (length bs))) refl;
     }
   where
     go : (bs : List ℕ) → length bs ≤ largest → (c : Cursor) → steps ps (At (length bs)) ≡ c → H (G (bytes bs)) ≡ outcome (steps (ps ++ qs) (At (length bs))) (bs ++ bytesOf (ps ++ qs))
@@ -63,8 +63,8 @@ module _ (field : List ℕ) (k : ℕ) (size : length field ≡ k) where
       record {
         stays = λ n o. refl;
         lays = λ bs h.
-          let l : length (bs ++ field) ≡ length bs + (k - 0) = length-append bs field ∙ omega arith in
-          rw (l, append-nil field) (go bs (leb (length bs + (k - 0)) largest))
+            let l : length (bs ++ field) ≡ length bs + (k - 0) = length-append bs field ∙ omega arith in
+            rw (l, append-nil field) (go bs (leb (length bs + (k - 0)) largest));
       }
     where
       go : (bs : List ℕ) (t : Bool) → cond t (bytes (bs ++ field)) (refused 6 0) ≡ outcome (cond t (At (length bs + (k - 0))) (Refused 6 0)) (bs ++ field)
@@ -76,7 +76,7 @@ unfolding placed
 bad-lays field n =
     record {
       stays = λ m o. refl;
-      lays = λ bs h. let z : length bs + (0 - 0) ≡ length bs = omega arith in rw (z, le-leb (length bs) largest h)
+      lays = λ bs h. let z : length bs + (0 - 0) ≡ length bs = omega arith in rw (z, le-leb (length bs) largest h);
     }
 
 module _ (field : List ℕ) (k n : ℕ) (t : Bool) (size : t ≡ true → length field ≡ k) where
@@ -121,7 +121,7 @@ xid-lays false v = go (eqb v 0)
     go true =
         record {
           stays = λ n o. refl;
-          lays = λ bs h. let z : length bs + (0 - 0) ≡ length bs = omega arith in rw (z, le-leb (length bs) largest h, append-nil bs)
+          lays = λ bs h. let z : length bs + (0 - 0) ≡ length bs = omega arith in rw (z, le-leb (length bs) largest h, append-nil bs);
         }
     go false = bad-lays [] 4
 
@@ -164,7 +164,7 @@ follows-then F H G I f h =
     record {
       local = local-then F H (f .local) (h .local);
       keeps = λ src d n o q. h .keeps src (G src d) n o (f .keeps src d n o q);
-      goes = λ src s bs e k. go src s bs (F src (At e)) (G src (copy e (bytes (bs ++ cut src s (e - s))))) (f .goes src s bs e k)
+      goes = λ src s bs e k. go src s bs (F src (At e)) (G src (copy e (bytes (bs ++ cut src s (e - s))))) (f .goes src s bs e k);
     }
   where
     go : (src : List ℕ) (s : ℕ) (bs : List ℕ) (c : Cursor) (d : Copy) → InStep src s bs c d → InStep src s bs (H src c) (I src d)
@@ -198,44 +198,48 @@ past src s bs m h i l F f = go (F src (At m)) refl
 module _
     (value : List ℕ → Cursor → ℕ) (next : List ℕ → Cursor → Cursor) (local : Local next) (off : (xs : List ℕ) (a n o : ℕ) → next xs (At a) ≡ Refused n o → o ≡ a)
     (F : ℕ → List ℕ → Cursor → Cursor) (G : ℕ → List ℕ → Copy → Copy) (follows : (v : ℕ) → Follows (F v) (G v))
-    where
-  follows-by : Local (λ xs c. F (value xs c) xs (next xs c)) → Follows (λ xs c. F (value xs c) xs (next xs c)) (λ xs d. G (value xs (At (d .from))) xs (copied xs (next xs (At (d .from))) d))
-  follows-by whole =
-      record {
-        local = whole;
-        keeps = λ src d n o q.
-          follows (value src (At (d .from))) .keeps src (copied src (next src (At (d .from))) d) n o (copied-keeps src (next src (At (d .from))) d n o q);
-        goes = λ src s bs e h. go src s bs e h (value src (At e)) (next src (At e)) refl
-      }
-    where
-      go :
-          (src : List ℕ) (s : ℕ) (bs : List ℕ) (e : ℕ) → On src s bs e → (v : ℕ) (c : Cursor) → next src (At e) ≡ c
-          → InStep src s bs (F v src c) (G v src (copied src c (copy e (bytes (bs ++ cut src s (e - s))))))
-      go src s bs e h v (At m) q =
-          let a : e ≤ m = local .ahead src e m q in
-          let i : m - s ≤ length src - s = omega (arith, h .0, h .1, local .inside src e m q) in
-          let k : length (cut src s (m - s)) ≡ m - s = length-cut src s (m - s) i in
-          let l : length (bs ++ cut src s (m - s)) ≡ length bs + (m - s) = length-append bs (cut src s (m - s)) ∙ omega arith in
-          rw (append-assoc bs (cut src s (e - s)) (cut src e (m - e)), joined src s e m (h .0) a, l) (test m a i (leb (length bs + (m - s)) largest) refl)
-        where
-          test :
-              (m : ℕ) → e ≤ m → m - s ≤ length src - s → (t : Bool) → leb (length bs + (m - s)) largest ≡ t
-              → InStep src s bs (F v src (At m)) (G v src (copy m (cond t (bytes (bs ++ cut src s (m - s))) (refused 6 0))))
-          test m a i true g = follows v .goes src s bs m (omega (arith, h .0), i, leb-true (length bs + (m - s)) largest g)
-          test m a i false g =
-              inr (record {
-                n = 6; o = 0; copies = follows v .keeps src (copy m (refused 6 0)) 6 0 refl;
-                reads = λ H l. past src s bs m (omega (arith, h .0)) i (leb-false (length bs + (m - s)) largest g) (λ xs c. H xs (F v xs c)) (local-then (F v) H (follows v .local) l)
-              })
-      go src s bs e h v (Refused n o) q =
-          let p : o ≡ e = off src e n o q in
-          let k : length (cut src s (e - s)) ≡ e - s = length-cut src s (e - s) (h .1) in
-          let l : length (bs ++ cut src s (e - s)) ≡ length bs + (o - s) = length-append bs (cut src s (e - s)) ∙ omega arith in
-          let m : length bs + (o - s) ≤ largest = omega (arith, h .2) in
-          inr (record {
-            n = n; o = length bs + (o - s); copies = follows v .keeps src (copy e (refused n (length (bs ++ cut src s (e - s))))) n (length bs + (o - s)) (ap (refused n) l);
-            reads = λ H l. ap (λ (c : Cursor). Shown src s bs (H src c)) (follows v .local .stays src n o) ∙ ap (Shown src s bs) (l .stays src n o) ∙ rw (le-leb (length bs + (o - s)) largest m)
-          })
+  where
+    follows-by : Local (λ xs c. F (value xs c) xs (next xs c)) → Follows (λ xs c. F (value xs c) xs (next xs c)) (λ xs d. G (value xs (At (d .from))) xs (copied xs (next xs (At (d .from))) d))
+    follows-by whole =
+        record {
+          local = whole;
+          keeps = λ src d n o q.
+              follows (value src (At (d .from))) .keeps src (copied src (next src (At (d .from))) d) n o (copied-keeps src (next src (At (d .from))) d n o q);
+          goes = λ src s bs e h. go src s bs e h (value src (At e)) (next src (At e)) refl;
+        }
+      where
+        go :
+            (src : List ℕ) (s : ℕ) (bs : List ℕ) (e : ℕ) → On src s bs e → (v : ℕ) (c : Cursor) → next src (At e) ≡ c
+            → InStep src s bs (F v src c) (G v src (copied src c (copy e (bytes (bs ++ cut src s (e - s))))))
+        go src s bs e h v (At m) q =
+            let a : e ≤ m = local .ahead src e m q in
+            let i : m - s ≤ length src - s = omega (arith, h .0, h .1, local .inside src e m q) in
+            let k : length (cut src s (m - s)) ≡ m - s = length-cut src s (m - s) i in
+            let l : length (bs ++ cut src s (m - s)) ≡ length bs + (m - s) = length-append bs (cut src s (m - s)) ∙ omega arith in
+            rw (append-assoc bs (cut src s (e - s)) (cut src e (m - e)), joined src s e m (h .0) a, l) (test m a i (leb (length bs + (m - s)) largest) refl)
+          where
+            test :
+                (m : ℕ) → e ≤ m → m - s ≤ length src - s → (t : Bool) → leb (length bs + (m - s)) largest ≡ t
+                → InStep src s bs (F v src (At m)) (G v src (copy m (cond t (bytes (bs ++ cut src s (m - s))) (refused 6 0))))
+            test m a i true g = follows v .goes src s bs m (omega (arith, h .0), i, leb-true (length bs + (m - s)) largest g)
+            test m a i false g =
+                inr (record {
+                  n = 6;
+                  o = 0;
+                  copies = follows v .keeps src (copy m (refused 6 0)) 6 0 refl;
+                  reads = λ H l. past src s bs m (omega (arith, h .0)) i (leb-false (length bs + (m - s)) largest g) (λ xs c. H xs (F v xs c)) (local-then (F v) H (follows v .local) l);
+                })
+        go src s bs e h v (Refused n o) q =
+            let p : o ≡ e = off src e n o q in
+            let k : length (cut src s (e - s)) ≡ e - s = length-cut src s (e - s) (h .1) in
+            let l : length (bs ++ cut src s (e - s)) ≡ length bs + (o - s) = length-append bs (cut src s (e - s)) ∙ omega arith in
+            let m : length bs + (o - s) ≤ largest = omega (arith, h .2) in
+            inr (record {
+              n = n;
+              o = length bs + (o - s);
+              copies = follows v .keeps src (copy e (refused n (length (bs ++ cut src s (e - s))))) n (length bs + (o - s)) (ap (refused n) l);
+              reads = λ H l. ap (λ (c : Cursor). Shown src s bs (H src c)) (follows v .local .stays src n o) ∙ ap (Shown src s bs) (l .stays src n o) ∙ rw (le-leb (length bs + (o - s)) largest m);
+            })
 
 -- THE FIELDS OF A LAYOUT
 
@@ -303,10 +307,10 @@ section-lays F G f src s =
     record {
       stays = λ n o. f .keeps src (copy s (refused n o)) n o refl;
       lays = λ bs h.
-        let z : s - s ≡ 0 = omega arith in
-        let e : bs ++ cut src s (s - s) ≡ bs = rw (z, append-nil bs) in
-        let i : On src s bs s = (omega arith, omega arith, omega arith) in
-        shown bs (F src (At s)) (G src (copy s (bytes bs))) (rw e at (f .goes src s bs s i)) ∙ same bs (F src (At s)) refl
+          let z : s - s ≡ 0 = omega arith in
+          let e : bs ++ cut src s (s - s) ≡ bs = rw (z, append-nil bs) in
+          let i : On src s bs s = (omega arith, omega arith, omega arith) in
+          shown bs (F src (At s)) (G src (copy s (bytes bs))) (rw e at (f .goes src s bs s i)) ∙ same bs (F src (At s)) refl;
     }
   where
     shown : (bs : List ℕ) (c : Cursor) (d : Copy) → InStep src s bs c d → d .to ≡ Shown src s bs c
@@ -359,7 +363,7 @@ part-lays b (groups w low high between fs) src v =
     (groupPieces between src (drop 1 v) ++ (sectionPiece src start (groupsEnd fs src n (At start)) ∷ []))
     (part-sound b (groups w low high between fs) src v .0, tt) (number-lays w low high 6 n)
     (lays-then (writeGroup between src (drop 1 v)) (λ d. copyGroups n fs src (copy start d) .to) (groupPieces between src (drop 1 v)) (sectionPiece src start (groupsEnd fs src n (At start)) ∷ [])
-     (group-sound between src (drop 1 v)) (group-lays between src (drop 1 v)) (section-lays (λ xs c. groupsEnd fs xs n c) (copyGroups n fs) (groups-follow fs n) src start))
+    (group-sound between src (drop 1 v)) (group-lays between src (drop 1 v)) (section-lays (λ xs c. groupsEnd fs xs n c) (copyGroups n fs) (groups-follow fs n) src start))
 part-lays b tuple src v = section-lays tupleEnd copyTuple tuple-follows src (getD v 0 0)
 part-lays b (optionalTuple set) src v = go (eqb (getD v 0 0) 0)
   where

@@ -4,7 +4,7 @@ ghost use mathlib.Core.Option.{some};
 ghost use mathlib.Core.List.{[], _∷_, _++_};
 ghost use Prim.Native.Nat.{_+_, _-_, _≤_};
 ghost use lib.ListN.{length};
-ghost use lib.Dec.{leb, eqb};
+ghost use lib.Dec.{leb};
 ghost use lib.Seq.{sets};
 ghost use Rattle.wire.specs.declared.Cursor.the-variants.{At};
 ghost use Rattle.wire.specs.Fields.{inRange, member};
@@ -16,7 +16,6 @@ ghost use Rattle.message.specs.Write.{writeMessage};
 ghost use Rattle.message.specs.Pieces.{placed, advanced, tested, textJudgement, xidJudgement, xidBytes, messagePieces, bytesOf, fieldsWritten};
 ghost use Rattle.writer.specs.Answer.{Settles};
 ghost use Rattle.writer.specs.Store.{roomFor, spot, put, Stored, oldEnd, oldAdvanced, oldBytes};
-
 use message::Begin;
 use message::Commit;
 use message::Delete;
@@ -39,8 +38,11 @@ use wire::Refusal;
 use wire::Span;
 
 const MAX32: u64 = 0xFFFF_FFFF;
+
 const MAX64: u64 = 0xFFFF_FFFF_FFFF_FFFF;
+
 const MOST_COLUMNS: u64 = 1600;
+
 const MOST_RELATIONS: u64 = 256;
 
 // What writing gives: the length of the message that was written, or why it was not.
@@ -70,7 +72,10 @@ fn place(at: usize, start: usize, judgement: Cursor) -> Cursor
                     return Cursor::At(at + n);
                 }
             }
-            Cursor::Refused { number: Refusal::RANGE, offset: 0 }
+            Cursor::Refused {
+                number: Refusal::RANGE,
+                offset: 0,
+            }
         }
         Cursor::Refused { number, offset } => {
             let n = less(offset, start);
@@ -80,7 +85,10 @@ fn place(at: usize, start: usize, judgement: Cursor) -> Cursor
                     return Cursor::Refused { number, offset };
                 }
             }
-            Cursor::Refused { number: Refusal::RANGE, offset: 0 }
+            Cursor::Refused {
+                number: Refusal::RANGE,
+                offset: 0,
+            }
         }
     }
 }
@@ -90,7 +98,10 @@ fn advance(c: Cursor, start: usize, judgement: Cursor) -> Cursor
     ensures { λ r. ⌜ r ≡ advanced start judgement c ⌝ }
 {
     match c {
-        Cursor::Refused { number: _, offset: _ } => c,
+        Cursor::Refused {
+            number: _,
+            offset: _,
+        } => c,
         Cursor::At(at) => place(at, start, judgement),
     }
 }
@@ -103,7 +114,10 @@ fn judge_number(width: usize, low: u64, high: u64, refusal: u8, value: u64) -> C
             return Cursor::At(width);
         }
     }
-    Cursor::Refused { number: refusal, offset: 0 }
+    Cursor::Refused {
+        number: refusal,
+        offset: 0,
+    }
 }
 
 // An id that is not 0.
@@ -119,7 +133,10 @@ fn judge_letter(set: &[u8], letter: u8) -> Cursor
     if wire::contains(set, letter) {
         Cursor::At(1)
     } else {
-        Cursor::Refused { number: Refusal::FIELD, offset: 0 }
+        Cursor::Refused {
+            number: Refusal::FIELD,
+            offset: 0,
+        }
     }
 }
 
@@ -133,7 +150,10 @@ fn judge_xid(in_block: bool, xid: u32) -> Cursor
     if xid == 0 {
         Cursor::At(0)
     } else {
-        Cursor::Refused { number: Refusal::FIELD, offset: 0 }
+        Cursor::Refused {
+            number: Refusal::FIELD,
+            offset: 0,
+        }
     }
 }
 
@@ -169,11 +189,17 @@ fn judge_text(source: &[u8], text: Span) -> Cursor
 {
     let Span { start, length } = text;
     if !lies(source, start, length) {
-        return Cursor::Refused { number: Refusal::SHORT, offset: 0 };
+        return Cursor::Refused {
+            number: Refusal::SHORT,
+            offset: 0,
+        };
     }
     let bytes = cut_of(source, start, length);
     if wire::contains(bytes, 0) {
-        return Cursor::Refused { number: Refusal::FIELD, offset: 0 };
+        return Cursor::Refused {
+            number: Refusal::FIELD,
+            offset: 0,
+        };
     }
     Cursor::At(length + 1)
 }
@@ -185,7 +211,10 @@ fn judge_content(source: &[u8], content: Span) -> Cursor
     if lies(source, start, length) {
         Cursor::At(length)
     } else {
-        Cursor::Refused { number: Refusal::SHORT, offset: 0 }
+        Cursor::Refused {
+            number: Refusal::SHORT,
+            offset: 0,
+        }
     }
 }
 
@@ -216,12 +245,18 @@ fn fit(c: Cursor, room: usize) -> Cursor
     ensures { λ r. ⌜ r ≡ roomFor room c ⌝ }
 {
     match c {
-        Cursor::Refused { number: _, offset: _ } => c,
+        Cursor::Refused {
+            number: _,
+            offset: _,
+        } => c,
         Cursor::At(n) => {
             if n <= room {
                 c
             } else {
-                Cursor::Refused { number: Refusal::OUTPUT, offset: 0 }
+                Cursor::Refused {
+                    number: Refusal::OUTPUT,
+                    offset: 0,
+                }
             }
         }
     }
@@ -326,7 +361,14 @@ fn put_tuple(out: &mut [u8], at: usize, source: &[u8], start: usize, end: Cursor
 }
 
 // A letter and a tuple.
-fn put_image(out: &mut [u8], at: usize, letter: u8, source: &[u8], start: usize, end: Cursor) -> usize
+fn put_image(
+    out: &mut [u8],
+    at: usize,
+    letter: u8,
+    source: &[u8],
+    start: usize,
+    end: Cursor,
+) -> usize
     requires { ⌜ at + length (letter ∷ fromTo (now source) start end) ≤ length (now out) ⌝ }
     ensures { λ r. ⌜ (spot (now (out .exit)) r ≡ put (letter ∷ fromTo (now (source .entry)) start end) (spot (now (out .entry)) at)) × (r ≡ at + length (letter ∷ fromTo (now (source .entry)) start end)) ⌝ }
 {
@@ -351,7 +393,11 @@ fn store_begin(out: &mut [u8], m: Begin)
     requires { ⌜ length (bytesOf (messagePieces false (a.Begin m) [])) ≤ length (now out) ⌝ }
     ensures { λ r. ⌜ Stored (bytesOf (messagePieces false (a.Begin m) [])) (now (out .entry)) (now (out .exit)) ⌝ }
 {
-    let Begin { final_lsn, time, xid } = m;
+    let Begin {
+        final_lsn,
+        time,
+        xid,
+    } = m;
     let at = put_byte(out, 0, b'B');
     let at = put_number(out, at, 8, final_lsn);
     let at = put_number(out, at, 8, wire::bits64(time));
@@ -361,10 +407,22 @@ fn store_begin(out: &mut [u8], m: Begin)
 fn write_begin(out: &mut [u8], m: Begin) -> Written
     ensures { λ r. ⌜ Settles (fieldsWritten false (a.Begin m) []) (now (out .entry)) r (now (out .exit)) ⌝ }
 {
-    let Begin { final_lsn, time, xid } = m;
+    let Begin {
+        final_lsn,
+        time,
+        xid,
+    } = m;
     let next = Cursor::At(1);
-    let next = advance(next, 0, judge_number(8, 0, MAX64, Refusal::FIELD, final_lsn));
-    let next = advance(next, 0, judge_number(8, 0, MAX64, Refusal::FIELD, wire::bits64(time)));
+    let next = advance(
+        next,
+        0,
+        judge_number(8, 0, MAX64, Refusal::FIELD, final_lsn),
+    );
+    let next = advance(
+        next,
+        0,
+        judge_number(8, 0, MAX64, Refusal::FIELD, wire::bits64(time)),
+    );
     let next = advance(next, 0, judge_id(xid));
     let next = fit(next, out.len());
     match next {
@@ -380,7 +438,12 @@ fn store_commit(out: &mut [u8], m: Commit)
     requires { ⌜ length (bytesOf (messagePieces false (a.Commit m) [])) ≤ length (now out) ⌝ }
     ensures { λ r. ⌜ Stored (bytesOf (messagePieces false (a.Commit m) [])) (now (out .entry)) (now (out .exit)) ⌝ }
 {
-    let Commit { flags, commit_lsn, end_lsn, time } = m;
+    let Commit {
+        flags,
+        commit_lsn,
+        end_lsn,
+        time,
+    } = m;
     let at = put_byte(out, 0, b'C');
     let at = put_number(out, at, 1, flags as u64);
     let at = put_number(out, at, 8, commit_lsn);
@@ -391,12 +454,25 @@ fn store_commit(out: &mut [u8], m: Commit)
 fn write_commit(out: &mut [u8], m: Commit) -> Written
     ensures { λ r. ⌜ Settles (fieldsWritten false (a.Commit m) []) (now (out .entry)) r (now (out .exit)) ⌝ }
 {
-    let Commit { flags, commit_lsn, end_lsn, time } = m;
+    let Commit {
+        flags,
+        commit_lsn,
+        end_lsn,
+        time,
+    } = m;
     let next = Cursor::At(1);
     let next = advance(next, 0, judge_number(1, 0, 0, Refusal::FIELD, flags as u64));
-    let next = advance(next, 0, judge_number(8, 0, MAX64, Refusal::FIELD, commit_lsn));
+    let next = advance(
+        next,
+        0,
+        judge_number(8, 0, MAX64, Refusal::FIELD, commit_lsn),
+    );
     let next = advance(next, 0, judge_number(8, 0, MAX64, Refusal::FIELD, end_lsn));
-    let next = advance(next, 0, judge_number(8, 0, MAX64, Refusal::FIELD, wire::bits64(time)));
+    let next = advance(
+        next,
+        0,
+        judge_number(8, 0, MAX64, Refusal::FIELD, wire::bits64(time)),
+    );
     let next = fit(next, out.len());
     match next {
         Cursor::Refused { number, offset } => refused(number, offset),
@@ -438,7 +514,15 @@ fn store_relation(out: &mut [u8], m: Relation, source: &[u8], in_block: bool, en
     requires { ⌜ (end ≡ groupsEnd columnFields (now source) (m .count) (At (m .columns))) × (length (bytesOf (messagePieces «in_block» (a.Relation m) (now source))) ≤ length (now out)) ⌝ }
     ensures { λ r. ⌜ Stored (bytesOf (messagePieces «in_block» (a.Relation m) (now (source .entry)))) (now (out .entry)) (now (out .exit)) ⌝ }
 {
-    let Relation { xid, relation, namespace, name, identity, count, columns } = m;
+    let Relation {
+        xid,
+        relation,
+        namespace,
+        name,
+        identity,
+        count,
+        columns,
+    } = m;
     let at = put_byte(out, 0, b'R');
     let at = put_xid(out, at, in_block, xid);
     let at = put_number(out, at, 4, relation as u64);
@@ -452,7 +536,15 @@ fn store_relation(out: &mut [u8], m: Relation, source: &[u8], in_block: bool, en
 fn write_relation(out: &mut [u8], m: Relation, source: &[u8], in_block: bool) -> Written
     ensures { λ r. ⌜ Settles (fieldsWritten «in_block» (a.Relation m) (now (source .entry))) (now (out .entry)) r (now (out .exit)) ⌝ }
 {
-    let Relation { xid, relation, namespace, name, identity, count, columns } = m;
+    let Relation {
+        xid,
+        relation,
+        namespace,
+        name,
+        identity,
+        count,
+        columns,
+    } = m;
     let end = reader::relation_columns(source, Cursor::At(columns), count);
     let next = Cursor::At(1);
     let next = advance(next, 0, judge_xid(in_block, xid));
@@ -460,7 +552,11 @@ fn write_relation(out: &mut [u8], m: Relation, source: &[u8], in_block: bool) ->
     let next = advance(next, 0, judge_text(source, namespace));
     let next = advance(next, 0, judge_text(source, name));
     let next = advance(next, 0, judge_letter(b"dnfi", identity));
-    let next = advance(next, 0, judge_number(2, 0, MOST_COLUMNS, Refusal::RANGE, count as u64));
+    let next = advance(
+        next,
+        0,
+        judge_number(2, 0, MOST_COLUMNS, Refusal::RANGE, count as u64),
+    );
     let next = advance(next, columns, end);
     let next = fit(next, out.len());
     match next {
@@ -476,7 +572,12 @@ fn store_type(out: &mut [u8], m: Type, source: &[u8], in_block: bool)
     requires { ⌜ length (bytesOf (messagePieces «in_block» (a.«Type» m) (now source))) ≤ length (now out) ⌝ }
     ensures { λ r. ⌜ Stored (bytesOf (messagePieces «in_block» (a.«Type» m) (now (source .entry)))) (now (out .entry)) (now (out .exit)) ⌝ }
 {
-    let Type { xid, oid, namespace, name } = m;
+    let Type {
+        xid,
+        oid,
+        namespace,
+        name,
+    } = m;
     let at = put_byte(out, 0, b'Y');
     let at = put_xid(out, at, in_block, xid);
     let at = put_number(out, at, 4, oid as u64);
@@ -487,10 +588,19 @@ fn store_type(out: &mut [u8], m: Type, source: &[u8], in_block: bool)
 fn write_type(out: &mut [u8], m: Type, source: &[u8], in_block: bool) -> Written
     ensures { λ r. ⌜ Settles (fieldsWritten «in_block» (a.«Type» m) (now (source .entry))) (now (out .entry)) r (now (out .exit)) ⌝ }
 {
-    let Type { xid, oid, namespace, name } = m;
+    let Type {
+        xid,
+        oid,
+        namespace,
+        name,
+    } = m;
     let next = Cursor::At(1);
     let next = advance(next, 0, judge_xid(in_block, xid));
-    let next = advance(next, 0, judge_number(4, 0, MAX32, Refusal::FIELD, oid as u64));
+    let next = advance(
+        next,
+        0,
+        judge_number(4, 0, MAX32, Refusal::FIELD, oid as u64),
+    );
     let next = advance(next, 0, judge_text(source, namespace));
     let next = advance(next, 0, judge_text(source, name));
     let next = fit(next, out.len());
@@ -507,7 +617,11 @@ fn store_insert(out: &mut [u8], m: Insert, source: &[u8], in_block: bool, end: C
     requires { ⌜ (end ≡ tupleEnd (now source) (At (m .tuple))) × (length (bytesOf (messagePieces «in_block» (a.Insert m) (now source))) ≤ length (now out)) ⌝ }
     ensures { λ r. ⌜ Stored (bytesOf (messagePieces «in_block» (a.Insert m) (now (source .entry)))) (now (out .entry)) (now (out .exit)) ⌝ }
 {
-    let Insert { xid, relation, tuple } = m;
+    let Insert {
+        xid,
+        relation,
+        tuple,
+    } = m;
     let at = put_byte(out, 0, b'I');
     let at = put_xid(out, at, in_block, xid);
     let at = put_number(out, at, 4, relation as u64);
@@ -518,7 +632,11 @@ fn store_insert(out: &mut [u8], m: Insert, source: &[u8], in_block: bool, end: C
 fn write_insert(out: &mut [u8], m: Insert, source: &[u8], in_block: bool) -> Written
     ensures { λ r. ⌜ Settles (fieldsWritten «in_block» (a.Insert m) (now (source .entry))) (now (out .entry)) r (now (out .exit)) ⌝ }
 {
-    let Insert { xid, relation, tuple } = m;
+    let Insert {
+        xid,
+        relation,
+        tuple,
+    } = m;
     let end = reader::tuple_end(source, Cursor::At(tuple));
     let next = Cursor::At(1);
     let next = advance(next, 0, judge_xid(in_block, xid));
@@ -535,11 +653,23 @@ fn write_insert(out: &mut [u8], m: Insert, source: &[u8], in_block: bool) -> Wri
     }
 }
 
-fn store_update(out: &mut [u8], m: Update, source: &[u8], in_block: bool, middle: Cursor, end: Cursor)
+fn store_update(
+    out: &mut [u8],
+    m: Update,
+    source: &[u8],
+    in_block: bool,
+    middle: Cursor,
+    end: Cursor,
+)
     requires { ⌜ (middle ≡ oldEnd (now source) (m .old)) × (end ≡ tupleEnd (now source) (At (m .tuple))) × (length (bytesOf (messagePieces «in_block» (a.Update m) (now source))) ≤ length (now out)) ⌝ }
     ensures { λ r. ⌜ Stored (bytesOf (messagePieces «in_block» (a.Update m) (now (source .entry)))) (now (out .entry)) (now (out .exit)) ⌝ }
 {
-    let Update { xid, relation, old, tuple } = m;
+    let Update {
+        xid,
+        relation,
+        old,
+        tuple,
+    } = m;
     let at = put_byte(out, 0, b'U');
     let at = put_xid(out, at, in_block, xid);
     let at = put_number(out, at, 4, relation as u64);
@@ -551,7 +681,12 @@ fn store_update(out: &mut [u8], m: Update, source: &[u8], in_block: bool, middle
 fn write_update(out: &mut [u8], m: Update, source: &[u8], in_block: bool) -> Written
     ensures { λ r. ⌜ Settles (fieldsWritten «in_block» (a.Update m) (now (source .entry))) (now (out .entry)) r (now (out .exit)) ⌝ }
 {
-    let Update { xid, relation, old, tuple } = m;
+    let Update {
+        xid,
+        relation,
+        old,
+        tuple,
+    } = m;
     let middle = old_end(source, old);
     let end = reader::tuple_end(source, Cursor::At(tuple));
     let next = Cursor::At(1);
@@ -574,7 +709,12 @@ fn store_delete(out: &mut [u8], m: Delete, source: &[u8], in_block: bool, end: C
     requires { ⌜ (end ≡ tupleEnd (now source) (At (m .tuple))) × (length (bytesOf (messagePieces «in_block» (a.Delete m) (now source))) ≤ length (now out)) ⌝ }
     ensures { λ r. ⌜ Stored (bytesOf (messagePieces «in_block» (a.Delete m) (now (source .entry)))) (now (out .entry)) (now (out .exit)) ⌝ }
 {
-    let Delete { xid, relation, image, tuple } = m;
+    let Delete {
+        xid,
+        relation,
+        image,
+        tuple,
+    } = m;
     let at = put_byte(out, 0, b'D');
     let at = put_xid(out, at, in_block, xid);
     let at = put_number(out, at, 4, relation as u64);
@@ -585,7 +725,12 @@ fn store_delete(out: &mut [u8], m: Delete, source: &[u8], in_block: bool, end: C
 fn write_delete(out: &mut [u8], m: Delete, source: &[u8], in_block: bool) -> Written
     ensures { λ r. ⌜ Settles (fieldsWritten «in_block» (a.Delete m) (now (source .entry))) (now (out .entry)) r (now (out .exit)) ⌝ }
 {
-    let Delete { xid, relation, image, tuple } = m;
+    let Delete {
+        xid,
+        relation,
+        image,
+        tuple,
+    } = m;
     let end = reader::tuple_end(source, Cursor::At(tuple));
     let next = Cursor::At(1);
     let next = advance(next, 0, judge_xid(in_block, xid));
@@ -606,7 +751,12 @@ fn store_truncate(out: &mut [u8], m: Truncate, source: &[u8], in_block: bool, en
     requires { ⌜ (end ≡ groupsEnd (id ∷ []) (now source) (m .count) (At (m .relations))) × (length (bytesOf (messagePieces «in_block» (a.Truncate m) (now source))) ≤ length (now out)) ⌝ }
     ensures { λ r. ⌜ Stored (bytesOf (messagePieces «in_block» (a.Truncate m) (now (source .entry)))) (now (out .entry)) (now (out .exit)) ⌝ }
 {
-    let Truncate { xid, count, options, relations } = m;
+    let Truncate {
+        xid,
+        count,
+        options,
+        relations,
+    } = m;
     let at = put_byte(out, 0, b'T');
     let at = put_xid(out, at, in_block, xid);
     let at = put_number(out, at, 4, count as u64);
@@ -617,12 +767,25 @@ fn store_truncate(out: &mut [u8], m: Truncate, source: &[u8], in_block: bool, en
 fn write_truncate(out: &mut [u8], m: Truncate, source: &[u8], in_block: bool) -> Written
     ensures { λ r. ⌜ Settles (fieldsWritten «in_block» (a.Truncate m) (now (source .entry))) (now (out .entry)) r (now (out .exit)) ⌝ }
 {
-    let Truncate { xid, count, options, relations } = m;
+    let Truncate {
+        xid,
+        count,
+        options,
+        relations,
+    } = m;
     let end = reader::relation_oids(source, Cursor::At(relations), count);
     let next = Cursor::At(1);
     let next = advance(next, 0, judge_xid(in_block, xid));
-    let next = advance(next, 0, judge_number(4, 1, MOST_RELATIONS, Refusal::RANGE, count as u64));
-    let next = advance(next, 0, judge_number(1, 0, 3, Refusal::FIELD, options as u64));
+    let next = advance(
+        next,
+        0,
+        judge_number(4, 1, MOST_RELATIONS, Refusal::RANGE, count as u64),
+    );
+    let next = advance(
+        next,
+        0,
+        judge_number(1, 0, 3, Refusal::FIELD, options as u64),
+    );
     let next = advance(next, relations, end);
     let next = fit(next, out.len());
     match next {
@@ -638,7 +801,13 @@ fn store_logical_message(out: &mut [u8], m: LogicalMessage, source: &[u8], in_bl
     requires { ⌜ length (bytesOf (messagePieces «in_block» (a.Message m) (now source))) ≤ length (now out) ⌝ }
     ensures { λ r. ⌜ Stored (bytesOf (messagePieces «in_block» (a.Message m) (now (source .entry)))) (now (out .entry)) (now (out .exit)) ⌝ }
 {
-    let LogicalMessage { xid, flags, lsn, prefix, content } = m;
+    let LogicalMessage {
+        xid,
+        flags,
+        lsn,
+        prefix,
+        content,
+    } = m;
     let Span { start, length } = content;
     let at = put_byte(out, 0, b'M');
     let at = put_xid(out, at, in_block, xid);
@@ -649,10 +818,21 @@ fn store_logical_message(out: &mut [u8], m: LogicalMessage, source: &[u8], in_bl
     put_part(out, at, source, start, length);
 }
 
-fn write_logical_message(out: &mut [u8], m: LogicalMessage, source: &[u8], in_block: bool) -> Written
+fn write_logical_message(
+    out: &mut [u8],
+    m: LogicalMessage,
+    source: &[u8],
+    in_block: bool,
+) -> Written
     ensures { λ r. ⌜ Settles (fieldsWritten «in_block» (a.Message m) (now (source .entry))) (now (out .entry)) r (now (out .exit)) ⌝ }
 {
-    let LogicalMessage { xid, flags, lsn, prefix, content } = m;
+    let LogicalMessage {
+        xid,
+        flags,
+        lsn,
+        prefix,
+        content,
+    } = m;
     let next = Cursor::At(1);
     let next = advance(next, 0, judge_xid(in_block, xid));
     let next = advance(next, 0, judge_number(1, 0, 1, Refusal::FIELD, flags as u64));
@@ -703,9 +883,9 @@ fn write_stream_stop(out: &mut [u8]) -> Written
     let next = fit(Cursor::At(1), out.len());
     match next {
         Cursor::Refused { number, offset } => refused(number, offset),
-        Cursor::At(n) => {
-            put_byte(out, 0, b'E');
-            Written::Length(n)
+        Cursor::At(_) => {
+            let end = put_byte(out, 0, b'E');
+            Written::Length(end)
         }
     }
 }
@@ -714,7 +894,13 @@ fn store_stream_commit(out: &mut [u8], m: StreamCommit)
     requires { ⌜ length (bytesOf (messagePieces false (a.StreamCommit m) [])) ≤ length (now out) ⌝ }
     ensures { λ r. ⌜ Stored (bytesOf (messagePieces false (a.StreamCommit m) [])) (now (out .entry)) (now (out .exit)) ⌝ }
 {
-    let StreamCommit { xid, flags, commit_lsn, end_lsn, time } = m;
+    let StreamCommit {
+        xid,
+        flags,
+        commit_lsn,
+        end_lsn,
+        time,
+    } = m;
     let at = put_byte(out, 0, b'c');
     let at = put_number(out, at, 4, xid as u64);
     let at = put_number(out, at, 1, flags as u64);
@@ -726,13 +912,27 @@ fn store_stream_commit(out: &mut [u8], m: StreamCommit)
 fn write_stream_commit(out: &mut [u8], m: StreamCommit) -> Written
     ensures { λ r. ⌜ Settles (fieldsWritten false (a.StreamCommit m) []) (now (out .entry)) r (now (out .exit)) ⌝ }
 {
-    let StreamCommit { xid, flags, commit_lsn, end_lsn, time } = m;
+    let StreamCommit {
+        xid,
+        flags,
+        commit_lsn,
+        end_lsn,
+        time,
+    } = m;
     let next = Cursor::At(1);
     let next = advance(next, 0, judge_id(xid));
     let next = advance(next, 0, judge_number(1, 0, 0, Refusal::FIELD, flags as u64));
-    let next = advance(next, 0, judge_number(8, 0, MAX64, Refusal::FIELD, commit_lsn));
+    let next = advance(
+        next,
+        0,
+        judge_number(8, 0, MAX64, Refusal::FIELD, commit_lsn),
+    );
     let next = advance(next, 0, judge_number(8, 0, MAX64, Refusal::FIELD, end_lsn));
-    let next = advance(next, 0, judge_number(8, 0, MAX64, Refusal::FIELD, wire::bits64(time)));
+    let next = advance(
+        next,
+        0,
+        judge_number(8, 0, MAX64, Refusal::FIELD, wire::bits64(time)),
+    );
     let next = fit(next, out.len());
     match next {
         Cursor::Refused { number, offset } => refused(number, offset),
@@ -816,7 +1016,13 @@ fn write_fields(out: &mut [u8], m: Message, source: &[u8], in_block: bool) -> Wr
 
 // Writes a message whose texts, contents, tuples, columns and OIDs lie in `source` to the front of `out`. What is refused leaves `out`
 // as it was.
-pub fn write_message(version: Version, in_block: bool, message: Message, source: &[u8], out: &mut [u8]) -> Written
+pub fn write_message(
+    version: Version,
+    in_block: bool,
+    message: Message,
+    source: &[u8],
+    out: &mut [u8],
+) -> Written
     ensures { λ r. ⌜ Settles (writeMessage version «in_block» message (now (source .entry))) (now (out .entry)) r (now (out .exit)) ⌝ }
 {
     if !version.allows(in_block) {
