@@ -68,11 +68,14 @@ module _ (b : Bool) (m : Message) (src out : List ℕ) {c d : Cursor} (judged : 
     pub has-room : length (bytesOf (messagePieces b m src)) ≤ length out
     has-room = omega (arith, fits c (sym room ∙ e) .1, message-end b m src n good .0)
 
-    pub accept : {o : List ℕ} → Stored (bytesOf (messagePieces b m src)) out o → Settles (fieldsWritten b m src) out (Length n) o
+    pub accept-as : {o : List ℕ} {k : ℕ} → k ≡ length (bytesOf (messagePieces b m src)) → Stored (bytesOf (messagePieces b m src)) out o → Settles (fieldsWritten b m src) out (Length k) o
     unfolding fieldsWritten
-    accept q =
+    accept-as p q =
         let l : leb (length (bytesOf (messagePieces b m src))) (length out) ≡ true = le-leb (length (bytesOf (messagePieces b m src))) (length out) has-room in
-        record { answer = rw (good, l) (ap Length (message-end b m src n good .0)); output = rw (good, l) q }
+        record { answer = rw (good, l) (ap Length p); output = rw (good, l) q }
+
+    pub accept : {o : List ℕ} → Stored (bytesOf (messagePieces b m src)) out o → Settles (fieldsWritten b m src) out (Length n) o
+    accept q = accept-as (message-end b m src n good .0) q
 
 -- VERSION AND KIND
 

@@ -4,7 +4,7 @@ ghost use mathlib.Core.Option.{some};
 ghost use mathlib.Core.List.{[], _∷_, _++_};
 ghost use Prim.Native.Nat.{_+_, _-_, _≤_};
 ghost use lib.ListN.{length};
-ghost use lib.Dec.{leb, eqb};
+ghost use lib.Dec.{leb};
 ghost use lib.Seq.{sets};
 ghost use Rattle.wire.specs.declared.Cursor.the-variants.{At};
 ghost use Rattle.wire.specs.Fields.{inRange, member};
@@ -883,9 +883,9 @@ fn write_stream_stop(out: &mut [u8]) -> Written
     let next = fit(Cursor::At(1), out.len());
     match next {
         Cursor::Refused { number, offset } => refused(number, offset),
-        Cursor::At(n) => {
-            put_byte(out, 0, b'E');
-            Written::Length(n)
+        Cursor::At(_) => {
+            let end = put_byte(out, 0, b'E');
+            Written::Length(end)
         }
     }
 }

@@ -1,6 +1,6 @@
+use Prim.Native.Nat.{_≤_}
 use mathlib.Core.Path.{_≡_, refl}
 use native.Mathlib.Omega.{arith}
-use Prim.Native.Nat.{_≤_}
 use lib.ListN.{length, length-set}
 use lib.Seq.{sets}
 use Rattle.message.specs.Encode.{digits}

@@ -1,6 +1,6 @@
+use Prim.Native.Nat.{_≤_, _-_}
 use mathlib.Core.Path.{_≡_, refl}
 use native.Mathlib.Omega.{arith}
-use Prim.Native.Nat.{_≤_, _-_}
 use lib.ListN.{length, length-set, drop}
 use lib.Seq.{sets}
 use Rattle.writer.proofs.Stores.{byte-turn, byte-end}
