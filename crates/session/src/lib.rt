@@ -1032,3 +1032,41 @@ pub fn step(session: Session, bytes: &[u8], tag: u64) -> Stepped
         answer,
     }
 }
+
+// Starts a session in the record that is lent.
+pub fn start_in(session: &mut Session, version: u32)
+    ensures { λ _. ⌜ now (session .exit) ≡ startOf (named version) ⌝ }
+{
+    *session = start(version);
+}
+
+// Gives the session that is lent one message.
+pub fn give(session: &mut Session, bytes: &[u8], tag: u64) -> Answer
+    ensures { λ r. ⌜ stepped (now (session .exit)) r ≡ stepOf (now (session .entry)) (now (bytes .entry)) tag ⌝ }
+{
+    let stepped = step(*session, bytes, tag);
+    *session = stepped.session;
+    stepped.answer
+}
+
+// The same with no copy of the record: every field is lent.
+pub fn give_lent(session: &mut Session, bytes: &[u8], tag: u64) -> Answer
+    ensures { λ r. ⌜ stepped (now (session .exit)) r ≡ stepOf (now (session .entry)) (now (bytes .entry)) tag ⌝ }
+{
+    step_fields(
+        &mut session.version,
+        &mut session.phase,
+        &mut session.current_xid,
+        &mut session.final_lsn,
+        &mut session.changed,
+        &mut session.stream_xids,
+        &mut session.stream_changed,
+        &mut session.owners,
+        &mut session.oids,
+        &mut session.tags,
+        &mut session.identities,
+        &mut session.columns,
+        bytes,
+        tag,
+    )
+}
