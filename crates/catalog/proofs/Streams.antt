@@ -1,16 +1,16 @@
 -- The laws of `streamsOf`, and the turns of the functions over it.
 use mathlib.Core.Path.{_≡_, refl, sym, _∙_, ap}
 use mathlib.Core.List.{List, [], _∷_, _++_}
-use mathlib.Core.Bool.{Bool, true, false, cond}
+use mathlib.Core.Bool.{Bool, true, false, cond, not}
 use Prim.Native.Nat.{ℕ, zero, suc, _+_, _≤_, _<_}
 use native.Mathlib.Omega.{arith}
 use lib.Dec.{eqb, ltb}
 use lib.ListN.{length, take, drop, getD, set, length-set}
 use lib.Seq.{ext-getD, set-out}
 use borrow.Author.Tests.{ltb-true, ltb-false}
-use Rattle.catalog.specs.Lists.{any, indexOf, replaceFirst, change, each}
-use Rattle.catalog.specs.Table.{Stream, streamsOf, first, rest, is, xidIs, freeStream, newStream, marked}
-use Rattle.catalog.proofs.Searches.{any-at, any-not, swap-at}
+use Rattle.catalog.specs.Lists.{any, indexOf, replaceFirst, change, each, firstOf}
+use Rattle.catalog.specs.Table.{Stream, streamsOf, first, rest, is, xidIs, changedOf, freeStream, newStream, marked}
+use Rattle.catalog.proofs.Searches.{any-at, any-not, swap-at, first-at, first-not}
 use Rattle.catalog.proofs.Loops.{change-turn, change-end}
 use Rattle.catalog.proofs.Columns.{each-length, each-at, first-is, rest-at, rest-short, first-set, rest-set, first-later, rest-later}
 
@@ -69,6 +69,19 @@ module _ (xids marks : List ℕ) (a b at : ℕ) (q : at ≡ indexOf (is a) xids)
 
   pub swap-none : length xids ≡ 16 → 16 ≤ at → streamsOf xids marks ≡ replaceFirst (xidIs a) (newStream b) (streamsOf xids marks)
   swap-none n h = sym (set-out (streamsOf xids marks) at (newStream b) (omega (arith, streams-length xids marks))) ∙ swap-set
+
+module _ (xids marks : List ℕ) (x at : ℕ) (q : at ≡ indexOf (is x) xids) (n : length xids ≡ 16) where
+  same : at ≡ indexOf (xidIs x) (streamsOf xids marks)
+  same = q ∙ sym (index-xid x xids marks)
+
+  pub mark-at : at < 16 → not (eqb (getD marks at 0) 0) ≡ firstOf changedOf false (xidIs x) (streamsOf xids marks)
+  mark-at h =
+      ap changedOf (sym (streams-at xids marks at (omega arith)))
+      ∙ ap (λ (k : ℕ). changedOf (getD (streamsOf xids marks) k freeStream)) same
+      ∙ sym (first-at changedOf false (xidIs x) freeStream (streamsOf xids marks) (omega (arith, same, streams-length xids marks)))
+
+  pub mark-none : 16 ≤ at → false ≡ firstOf changedOf false (xidIs x) (streamsOf xids marks)
+  mark-none h = sym (first-not changedOf false (xidIs x) freeStream (streamsOf xids marks) (omega (arith, same, streams-length xids marks)))
 
 pub any-in : {A : Type 0} (p : A → Bool) (n : ℕ) (l : List A) (i : ℕ) → i ≡ indexOf p l → length l ≡ n → ltb i n ≡ any p l
 any-in p n l i e k = go (ltb i n) refl

@@ -3,10 +3,10 @@ ghost use mathlib.Core.Path.{_≡_};
 ghost use mathlib.Core.List.{List};
 ghost use Prim.Native.Nat.{ℕ, _<_};
 ghost use lib.Dec.{eqb};
-ghost use mathlib.Core.Bool.{cond};
+ghost use mathlib.Core.Bool.{cond, false};
 ghost use lib.ListN.{length, set, getD};
-ghost use Rattle.catalog.specs.Lists.{any, change, indexOf, replaceFirst};
-ghost use Rattle.catalog.specs.Table.{streamsOf, xidIs, newStream, marked, rowsOf, keysOf, Sized, row, is, keyIs, isFree, freeRow, lookupIn, dropped, released, freed, sharedOwner, putRow};
+ghost use Rattle.catalog.specs.Lists.{any, change, indexOf, replaceFirst, firstOf};
+ghost use Rattle.catalog.specs.Table.{streamsOf, xidIs, changedOf, newStream, marked, rowsOf, keysOf, Sized, row, is, keyIs, isFree, freeRow, lookupIn, dropped, released, freed, sharedOwner, putRow};
 
 pub const ROWS: usize = 256;
 
@@ -374,6 +374,18 @@ pub fn has_stream(xids: &[u32; 16], x: u32) -> bool
 {
     sized_xids(xids);
     find_stream(xids, x) < 16
+}
+
+// Whether the first place of x is marked.
+pub fn stream_changed(xids: &[u32; 16], marks: &[u8; 16], x: u32) -> bool
+    ensures { λ r. ⌜ r ≡ firstOf changedOf false (xidIs x) (streamsOf (now (xids .entry)) (now (marks .entry))) ⌝ }
+{
+    sized_streams(xids, marks);
+    let at = find_stream(xids, x);
+    if at < 16 {
+        return marks[at] != 0;
+    }
+    false
 }
 
 // The first place of a is b's, with no change.

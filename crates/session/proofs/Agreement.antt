@@ -16,6 +16,7 @@ use Rattle.session.specs.declared.Answer.the-variants as answer
 use Rattle.session.specs.Events.{Event, Begin, Commit, Origin, Relation, Change, Truncate, Neutral, StreamStart, StreamStop, StreamCommit, StreamAbort}
 use Rattle.session.specs.Rules.{entry, History, place, isIdle, holderAt, isOpen, openCount, isChanged, held, visibleAt, visible, isFound, liveCount, test, ruleOrigin, ruleRelation, ruleChange, ruleStreamStart, ruleStreamEnd, shaped, allSeen, firstSeen, judge, accepts}
 use Rattle.session.specs.State.{State, freshState, answerIn, visibleIn, changedAt, flaggedAt, markedAt, streamsAfter, stateAfter}
+use Rattle.session.proofs.Tests.{not-true, not-false}
 use Rattle.session.proofs.Formed.{NonZero, AllNonZero, Formed}
 use Rattle.session.proofs.Streams as Streams
 use Rattle.session.proofs.Rows as Rows
@@ -87,14 +88,6 @@ passed : (ok : Bool) (n : ℕ) (rest : Answer) → accepts (test ok n rest) ≡ 
 passed true n rest e = (refl, e)
 passed false n rest e = absurd (false≢true e)
 
-not-true : (b : Bool) → not b ≡ true → b ≡ false
-not-true true e = absurd (false≢true e)
-not-true false e = refl
-
-not-false : (b : Bool) → not b ≡ false → b ≡ true
-not-false true e = refl
-not-false false e = absurd (true≢false e)
-
 -- a message that needs a transaction or a block
 busy : (p : Place) (rest : Answer) → accepts (test (not (isIdle p)) 7 rest) ≡ true → isIdle p ≡ false
 busy p rest e = not-true (isIdle p) (passed (not (isIdle p)) 7 rest e .0)
@@ -103,9 +96,9 @@ end-accepted : (p : Place) (o : Bool) → accepts (ruleStreamEnd p o) ≡ true �
 end-accepted p o e = let k = passed (isIdle p) 7 (test o 8 answer.Accepted) e in (k .0, passed o 8 answer.Accepted (k .1) .0)
 
 start-accepted : (p : Place) (first o full : Bool) → accepts (ruleStreamStart p first o full) ≡ true → (o ≡ not first) × (first ≡ true → full ≡ false)
-start-accepted p first o full e = go first o full (passed (isIdle p) 7 (test (cond first (not o) o) 8 (test (not (full && first)) 12 answer.Accepted)) e .1)
+start-accepted p first o full e = go first o full (passed (isIdle p) 7 (test (cond first (not o) o) 8 (test (not (first && full)) 12 answer.Accepted)) e .1)
   where
-    go : (first o full : Bool) → accepts (test (cond first (not o) o) 8 (test (not (full && first)) 12 answer.Accepted)) ≡ true → (o ≡ not first) × (first ≡ true → full ≡ false)
+    go : (first o full : Bool) → accepts (test (cond first (not o) o) 8 (test (not (first && full)) 12 answer.Accepted)) ≡ true → (o ≡ not first) × (first ≡ true → full ≡ false)
     go true true full e = absurd (false≢true e)
     go true false true e = absurd (false≢true e)
     go true false false e = (refl, λ k. refl)

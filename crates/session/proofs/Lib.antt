@@ -1,3 +1,4 @@
+pub mod Tests
 pub mod Formed
 pub mod Streams
 pub mod Rows
@@ -5,3 +6,7 @@ pub mod Live
 pub mod Agreement
 pub mod Runs
 pub mod ListTheorem
+pub mod Shapes
+pub mod Others
+pub mod Oids
+pub mod Stores

@@ -16,7 +16,7 @@ use Rattle.session.specs.declared.Place.{Place}
 use Rattle.session.specs.Events.{Begin, Commit, Origin, Relation, Change, Truncate, Neutral, StreamStart, StreamStop, StreamCommit, StreamAbort}
 use Rattle.session.specs.Rules.{entry, History, place, inBlock, inTransaction, holderAt, own, common, held, isFound, orElse, Pair, pair, samePair, pairs, isLive, liveCount}
 use Rattle.session.proofs.Formed.{NonZero}
-use Rattle.session.proofs.Streams.{and-parts}
+use Rattle.session.proofs.Tests.{and-parts}
 use Rattle.session.proofs.Rows.{Agrees, same-any}
 
 same-eq : (k m : Pair) → samePair k m ≡ true → k ≡ m

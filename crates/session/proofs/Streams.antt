@@ -14,6 +14,7 @@ use Rattle.catalog.proofs.Columns.{each-length}
 use Rattle.catalog.proofs.Firsts.{first-swap-other, first-swap-new, first-change, tally-change, change-length, swap-length}
 use Rattle.session.specs.Events.{Begin, Commit, Origin, Relation, Change, Truncate, Neutral, StreamStart, StreamStop, StreamCommit, StreamAbort}
 use Rattle.session.specs.Rules.{entry, History, isOpen, started, openCount, isChanged}
+use Rattle.session.proofs.Tests.{and-parts}
 use Rattle.session.proofs.Formed.{NonZero}
 
 pub record Agrees (l : List Stream) (h : History) : Type 0 where
@@ -37,10 +38,6 @@ is-eq x y e = sym (eqb-true y x e)
 
 is-refl : (x : ℕ) → is x x ≡ true
 is-refl x = eq-eqb x x refl
-
-pub and-parts : (a b : Bool) → a && b ≡ true → (a ≡ true) × (b ≡ true)
-and-parts true b e = (refl, e)
-and-parts false b e = absurd (false≢true e)
 
 -- an open transaction was started
 started-open : (h : History) (t : ℕ) → isOpen h t ≡ true → any (is t) (started h) ≡ true

@@ -2,3 +2,4 @@ pub mod Events
 pub mod Rules
 pub mod State
 pub mod Machine
+pub mod Acts

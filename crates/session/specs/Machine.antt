@@ -90,11 +90,14 @@ written s n =
 
 -- A STEP
 
+abbrev pub stepped : Session → Answer → Stepped
+stepped s a = record { session = s; answer = a }
+
 abbrev pub eventStep : Session → Event → ℕ → Stepped
-eventStep s e g = let a = answerIn (view s) e in record { session = cond (accepts a) (written s (stateAfter (view s) e g)) s; answer = a }
+eventStep s e g = let a = answerIn (view s) e in stepped (cond (accepts a) (written s (stateAfter (view s) e g)) s) a
 
 abbrev pub readStep : Session → Read → List ℕ → ℕ → Stepped
-readStep s (read.Refused r) xs g = record { session = s; answer = answer.Refused (r .number) (r .offset) }
+readStep s (read.Refused r) xs g = stepped s (answer.Refused (r .number) (r .offset))
 readStep s (read.Message m) xs g = eventStep s (eventOf m xs) g
 
 -- a message's bytes and its tag, given to a session: reading's refusal and a refused message leave it as it was

@@ -253,7 +253,7 @@ ruleCommit p lsn = test (inTransaction p) 7 (test (eqb lsn (finalLsn p)) 8 answe
 -- S: idle, else 7. First = 1 needs the xid not open, first = 0 needs it open, else 8. Then 12 if 16 are open and this would be another.
 abbrev pub ruleStreamStart : Place → Bool → Bool → Bool → Answer
 ruleStreamStart p first open' full =
-    test (isIdle p) 7 (test (cond first (not open') open') 8 (test (not (full && first)) 12 answer.Accepted))
+    test (isIdle p) 7 (test (cond first (not open') open') 8 (test (not (first && full)) 12 answer.Accepted))
 
 -- E: in a block, else 7.
 abbrev pub ruleStreamStop : Place → Answer
