@@ -45,7 +45,7 @@ text-good src s n k q = go (leb (s + n) (length src)) refl (member (cut src s n)
     go true f true g q = no refl q
     go false f m g q = no refl q
 
-pub placed-good : (at s : ℕ) (j : Cursor) (m : ℕ) → placed at s j ≡ At m → (k : ℕ) × (j ≡ At k) × (k - s ≤ largest) × (m ≡ at + (k - s)) × (m ≤ largest)
+placed-good : (at s : ℕ) (j : Cursor) (m : ℕ) → placed at s j ≡ At m → (k : ℕ) × (j ≡ At k) × (k - s ≤ largest) × (m ≡ at + (k - s)) × (m ≤ largest)
 unfolding placed
 placed-good at s (At k) m q = go (leb (at + (k - s)) largest) refl q
   where
@@ -101,7 +101,7 @@ content-sound src s n k q =
     let e : n ≡ k = r .1 in
     length-cut src s n (omega arith) ∙ omega arith
 
-pub section-sound : (F : List ℕ → Cursor → Cursor) (f : Local F) (src : List ℕ) (s : ℕ) → Sound (sectionPiece src s (F src (At s)))
+section-sound : (F : List ℕ → Cursor → Cursor) (f : Local F) (src : List ℕ) (s : ℕ) → Sound (sectionPiece src s (F src (At s)))
 section-sound F f src s k q = ap (λ (c : Cursor). length (fromTo src s c)) q ∙ length-cut src s (k - s) (f .inside src s k q)
 
 pub field-sound : (f : Field) (src v : List ℕ) → AllSound (fieldPieces f src v)
@@ -131,7 +131,7 @@ part-sound b (optionalTuple set) src v = go (eqb (getD v 0 0) 0)
     go true = tt
     go false = (letter-sound set (getD v 0 0), (section-sound tupleEnd tuple-local src (getD v 1 0), tt))
 
-pub layout-sound : (b : Bool) (ps : List Part) (src : List ℕ) (vs : List (List ℕ)) → AllSound (layoutPieces b ps src vs)
+layout-sound : (b : Bool) (ps : List Part) (src : List ℕ) (vs : List (List ℕ)) → AllSound (layoutPieces b ps src vs)
 layout-sound b [] src vs = tt
 layout-sound b (p ∷ ps) src vs = sound-append (partPieces b p src (getD vs 0 [])) _ (part-sound b p src (getD vs 0 [])) (layout-sound b ps src (drop 1 vs))
 

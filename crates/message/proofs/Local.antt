@@ -9,12 +9,10 @@ use lib.Seq.{getD-drop, getD-take, length-take-le, ext-getD}
 use lib.Dec.{eqb}
 use Rattle.wire.specs.declared.Cursor.{Cursor}
 use Rattle.wire.specs.declared.Cursor.the-variants.{At, Refused}
-use Rattle.wire.specs.declared.Field64.{Field64}
-use Rattle.wire.specs.declared.Field8.{Field8}
 use Rattle.wire.specs.Numbers.{be}
 use Rattle.wire.specs.Fields.{numberField, letterField, textField, bytesField, valueField, untilZero, member, inRange}
 use Rattle.wire.proofs.There.{no, number-inv, number-read, number-off, letter-inv, letter-read, letter-off, text-inv, text-read, text-off, bytes-inv, bytes-read, bytes-off, until-before, until-zero, until-is}
-use Rattle.message.specs.Layout.{Field, number, constant, letter, text, value, column, readField, readGroup, times, groupsEnd, tupleEnd, columnEnd, columnLetters}
+use Rattle.message.specs.Layout.{Field, number, constant, letter, text, value, column, readField, readGroup, times, groupsEnd, tupleEnd, columnEnd, columnLetters, mostColumns}
 use Rattle.message.specs.Encode.{cut}
 use Rattle.message.proofs.Accepted.{reached}
 
@@ -48,7 +46,10 @@ module _ {xs ys : List ℕ} {a b : ℕ} where
       ext-getD 0 (cut ys b n) (cut xs a n) (p ∙ sym q)
       (λ i l. let j : i < n = omega arith in rw (getD-take n (drop b ys) i 0 j, getD-take n (drop a xs) i 0 j, getD-drop, getD-drop) (g .same i j))
 
-  pub be-same : (w : ℕ) → Agree xs a ys b w → be w ys b ≡ be w xs a
+  same-byte : Agree xs a ys b 1 → getD ys b 0 ≡ getD xs a 0
+  same-byte g = let p : b + 0 ≡ b = omega arith in let q : a + 0 ≡ a = omega arith in rw (p, q) at (g .same 0 (omega arith))
+
+  be-same : (w : ℕ) → Agree xs a ys b w → be w ys b ≡ be w xs a
   unfolding be
   be-same zero g = refl
   be-same (suc k) g = rw (be-same k (fewer (suc k) k (omega arith) g), g .same k (omega arith))
@@ -86,26 +87,40 @@ local-none =
       moves = λ xs ys a b e q g. let p : a ≡ e = cc in let z : b + (e - a) ≡ b = omega arith in rw z;
     }
 
+-- a field, and what its value says to read behind it
+module _
+    (value : List ℕ → Cursor → ℕ) (next : List ℕ → Cursor → Cursor) (f : Local next)
+    (same : (xs ys : List ℕ) (a b e : ℕ) → next xs (At a) ≡ At e → Agree xs a ys b (e - a) → value ys (At b) ≡ value xs (At a))
+    (G : ℕ → List ℕ → Cursor → Cursor) (g : (v : ℕ) → Local (G v))
+  where
+    local-by : Local (λ xs c. G (value xs c) xs (next xs c))
+    local-by =
+        record {
+          stays = λ xs n o. let v = value xs (Refused n o) in ap (G v xs) (f .stays xs n o) ∙ g v .stays xs n o;
+          ahead = λ xs a e q.
+              let v = value xs (At a) in
+              let m = through (G v xs) (g v .stays xs) (next xs (At a)) e q in
+              omega (arith, f .ahead xs a (m .0) (m .1), g v .ahead xs (m .0) e (m .2));
+          late = λ xs a n o q.
+              let v = value xs (At a) in
+              late-by (G v xs) (g v .stays xs) (g v .late xs) a (next xs (At a)) (f .ahead xs a) (f .late xs a) n o q;
+          inside = λ xs a e q.
+              let v = value xs (At a) in
+              let m = through (G v xs) (g v .stays xs) (next xs (At a)) e q in
+              omega (arith, f .ahead xs a (m .0) (m .1), g v .ahead xs (m .0) e (m .2), f .inside xs a (m .0) (m .1), g v .inside xs (m .0) e (m .2));
+          moves = λ xs ys a b e q h.
+              let v = value xs (At a) in
+              let m = through (G v xs) (g v .stays xs) (next xs (At a)) e q in
+              let p : a ≤ m .0 = f .ahead xs a (m .0) (m .1) in
+              let r : m .0 ≤ e = g v .ahead xs (m .0) e (m .2) in
+              let s : b + (m .0 - a) + (e - m .0) ≡ b + (e - a) = omega arith in
+              let first = fewer (e - a) (m .0 - a) (omega arith) h in
+              let behind = beyond (e - a) (m .0 - a) (e - m .0) (m .0) (b + (m .0 - a)) (omega arith) (omega arith) refl h in
+              rw (same xs ys a b (m .0) (m .1) first, f .moves xs ys a b (m .0) (m .1) first) (g v .moves xs ys (m .0) (b + (m .0 - a)) e (m .2) behind ∙ ap At s);
+        }
+
 pub local-then : (F G : List ℕ → Cursor → Cursor) → Local F → Local G → Local (λ xs c. G xs (F xs c))
-local-then F G f g =
-    record {
-      stays = λ xs n o. ap (G xs) (f .stays xs n o) ∙ g .stays xs n o;
-      ahead = λ xs a e q.
-          let m = through (G xs) (g .stays xs) (F xs (At a)) e q in
-          omega (arith, f .ahead xs a (m .0) (m .1), g .ahead xs (m .0) e (m .2));
-      late = λ xs a n o q. late-by (G xs) (g .stays xs) (g .late xs) a (F xs (At a)) (f .ahead xs a) (f .late xs a) n o q;
-      inside = λ xs a e q.
-          let m = through (G xs) (g .stays xs) (F xs (At a)) e q in
-          omega (arith, f .ahead xs a (m .0) (m .1), g .ahead xs (m .0) e (m .2), f .inside xs a (m .0) (m .1), g .inside xs (m .0) e (m .2));
-      moves = λ xs ys a b e q h.
-          let m = through (G xs) (g .stays xs) (F xs (At a)) e q in
-          let p : a ≤ m .0 = f .ahead xs a (m .0) (m .1) in
-          let r : m .0 ≤ e = g .ahead xs (m .0) e (m .2) in
-          let s : b + (m .0 - a) + (e - m .0) ≡ b + (e - a) = omega arith in
-          ap (G ys) (f .moves xs ys a b (m .0) (m .1) (fewer (e - a) (m .0 - a) (omega arith) h))
-          ∙ g .moves xs ys (m .0) (b + (m .0 - a)) e (m .2) (beyond (e - a) (m .0 - a) (e - m .0) (m .0) (b + (m .0 - a)) (omega arith) (omega arith) refl h)
-          ∙ ap At s;
-    }
+local-then F G f g = local-by (λ xs c. 0) F f (λ xs ys a b e q h. refl) (λ v. G) (λ v. g)
 
 pub number-local : (w low high n : ℕ) → Local (λ xs c. numberField w low high n xs c .next)
 unfolding numberField
@@ -134,12 +149,9 @@ letter-local set =
           let i = letter-inv set xs a e q in
           let z : e - a ≡ 1 = omega (arith, i .2) in
           let h : Agree xs a ys b 1 = rw z at g in
-          let s : getD ys b 0 ≡ getD xs a 0 = same-byte xs ys a b h in
+          let s : getD ys b 0 ≡ getD xs a 0 = same-byte h in
           rw (z, letter-read set ys b (omega (arith, h .there)) (ap (member set) s ∙ i .1));
     }
-  where
-    same-byte : (xs ys : List ℕ) (a b : ℕ) → Agree xs a ys b 1 → getD ys b 0 ≡ getD xs a 0
-    same-byte xs ys a b h = let p : b + 0 ≡ b = omega arith in let q : a + 0 ≡ a = omega arith in rw (p, q) at (h .same 0 (omega arith))
 
 pub text-local : Local (λ xs c. textField xs c .next)
 unfolding textField
@@ -178,95 +190,36 @@ bytes-local n =
           rw (z, bytes-read ys b n (h .there));
     }
 
--- a number read elsewhere is the same number
-pub number-moves :
+-- a number or a letter read elsewhere is the same
+number-same :
     (w low high n : ℕ) (xs ys : List ℕ) (a b e : ℕ) → numberField w low high n xs (At a) .next ≡ At e → Agree xs a ys b (e - a)
-    → (numberField w low high n ys (At b) .value ≡ numberField w low high n xs (At a) .value) × (numberField w low high n ys (At b) .next ≡ At (b + (e - a)))
-number-moves w low high n xs ys a b e q g =
+    → numberField w low high n ys (At b) .value ≡ numberField w low high n xs (At a) .value
+number-same w low high n xs ys a b e q g =
     let i = number-inv w low high n xs a e q in
     let z : e - a ≡ w = omega (arith, i .2) in
     let h : Agree xs a ys b w = rw z at g in
-    let r = number-read w low high n ys b (h .there) (ap (inRange low high) (be-same w h) ∙ i .1) in
-    (ap (λ (f : Field64). f .value) r ∙ be-same w h ∙ sym (ap (λ (f : Field64). f .value) (number-read w low high n xs a (i .0) (i .1))), number-local w low high n .moves xs ys a b e q g)
+    rw (number-read w low high n ys b (h .there) (ap (inRange low high) (be-same w h) ∙ i .1), number-read w low high n xs a (i .0) (i .1)) (be-same w h)
 
--- a count or length, and what it says how much to read of
-module _ (w low high n : ℕ) (G : ℕ → List ℕ → Cursor → Cursor) (g : (k : ℕ) → Local (G k)) where
-  counted : List ℕ → Cursor → Cursor
-  counted xs c = let f = numberField w low high n xs c in G (f .value) xs (f .next)
-
-  counted-local : Local counted
-  unfolding counted numberField
-  counted-local =
-      record {
-        stays = λ xs n o. g 0 .stays xs n o;
-        ahead = λ xs a e q.
-            let k = numberField w low high n xs (At a) .value in
-            let m = through (G k xs) (g k .stays xs) (numberField w low high n xs (At a) .next) e q in
-            omega (arith, number-inv w low high n xs a (m .0) (m .1) .2, g k .ahead xs (m .0) e (m .2));
-        late = λ xs a m o q.
-            let k = numberField w low high n xs (At a) .value in
-            late-by (G k xs) (g k .stays xs) (g k .late xs) a (numberField w low high n xs (At a) .next) (number-local w low high n .ahead xs a) (number-local w low high n .late xs a) m o q;
-        inside = λ xs a e q.
-            let k = numberField w low high n xs (At a) .value in
-            let m = through (G k xs) (g k .stays xs) (numberField w low high n xs (At a) .next) e q in
-            omega (arith, number-inv w low high n xs a (m .0) (m .1) .0, number-inv w low high n xs a (m .0) (m .1) .2, g k .ahead xs (m .0) e (m .2), g k .inside xs (m .0) e (m .2));
-        moves = λ xs ys a b e q h.
-            let k = numberField w low high n xs (At a) .value in
-            let m = through (G k xs) (g k .stays xs) (numberField w low high n xs (At a) .next) e q in
-            let p : a ≤ m .0 = omega (arith, number-inv w low high n xs a (m .0) (m .1) .2) in
-            let r : m .0 ≤ e = g k .ahead xs (m .0) e (m .2) in
-            let s : b + (m .0 - a) + (e - m .0) ≡ b + (e - a) = omega arith in
-            let f = number-moves w low high n xs ys a b (m .0) (m .1) (fewer (e - a) (m .0 - a) (omega arith) h) in
-            rw (f .0, f .1) (g k .moves xs ys (m .0) (b + (m .0 - a)) e (m .2) (beyond (e - a) (m .0 - a) (e - m .0) (m .0) (b + (m .0 - a)) (omega arith) (omega arith) refl h) ∙ ap At s);
-      }
+letter-same :
+    (set xs ys : List ℕ) (a b e : ℕ) → letterField set xs (At a) .next ≡ At e → Agree xs a ys b (e - a)
+    → letterField set ys (At b) .value ≡ letterField set xs (At a) .value
+letter-same set xs ys a b e q g =
+    let i = letter-inv set xs a e q in
+    let z : e - a ≡ 1 = omega (arith, i .2) in
+    let h : Agree xs a ys b 1 = rw z at g in
+    rw (letter-read set ys b (omega (arith, h .there)) (ap (member set) (same-byte h) ∙ i .1), letter-read set xs a (i .0) (i .1)) (same-byte h)
 
 pub value-local : Local (λ xs c. valueField xs c .next)
-unfolding valueField counted
-value-local = counted-local 4 0 0x7FFFFFFF 4 (λ n xs c. bytesField n xs c .next) bytes-local
-
--- a letter, and what it says to read
-module _ (set : List ℕ) (G : ℕ → List ℕ → Cursor → Cursor) (g : (k : ℕ) → Local (G k)) where
-  lettered : List ℕ → Cursor → Cursor
-  lettered xs c = let f = letterField set xs c in G (f .value) xs (f .next)
-
-  same-byte : (xs ys : List ℕ) (a b n : ℕ) → 0 < n → Agree xs a ys b n → getD ys b 0 ≡ getD xs a 0
-  same-byte xs ys a b n l h = let p : b + 0 ≡ b = omega arith in let q : a + 0 ≡ a = omega arith in rw (p, q) at (h .same 0 l)
-
-  lettered-local : Local lettered
-  unfolding lettered letterField
-  lettered-local =
-      record {
-        stays = λ xs n o. g 0 .stays xs n o;
-        ahead = λ xs a e q.
-            let k = letterField set xs (At a) .value in
-            let m = through (G k xs) (g k .stays xs) (letterField set xs (At a) .next) e q in
-            omega (arith, letter-inv set xs a (m .0) (m .1) .2, g k .ahead xs (m .0) e (m .2));
-        late = λ xs a m o q.
-            let k = letterField set xs (At a) .value in
-            late-by (G k xs) (g k .stays xs) (g k .late xs) a (letterField set xs (At a) .next) (letter-local set .ahead xs a) (letter-local set .late xs a) m o q;
-        inside = λ xs a e q.
-            let k = letterField set xs (At a) .value in
-            let m = through (G k xs) (g k .stays xs) (letterField set xs (At a) .next) e q in
-            omega (arith, letter-inv set xs a (m .0) (m .1) .0, letter-inv set xs a (m .0) (m .1) .2, g k .ahead xs (m .0) e (m .2), g k .inside xs (m .0) e (m .2));
-        moves = λ xs ys a b e q h.
-            let k = letterField set xs (At a) .value in
-            let m = through (G k xs) (g k .stays xs) (letterField set xs (At a) .next) e q in
-            let i = letter-inv set xs a (m .0) (m .1) in
-            let p : m .0 ≡ a + 1 = i .2 in
-            let r : m .0 ≤ e = g k .ahead xs (m .0) e (m .2) in
-            let s : b + (m .0 - a) + (e - m .0) ≡ b + (e - a) = omega arith in
-            let same : getD ys b 0 ≡ getD xs a 0 = same-byte xs ys a b (e - a) (omega arith) h in
-            let f = letter-read set ys b (omega (arith, h .there)) (ap (member set) same ∙ i .1) in
-            let o = letter-read set xs a (i .0) (i .1) in
-            let v : letterField set ys (At b) .value ≡ k = ap (λ (f : Field8). f .value) f ∙ same ∙ sym (ap (λ (f : Field8). f .value) o) in
-            let t : b + 1 ≡ b + (m .0 - a) = omega arith in
-            let w : letterField set ys (At b) .next ≡ At (b + (m .0 - a)) = ap (λ (f : Field8). f .next) f ∙ ap At t in
-            rw (v, w) (g k .moves xs ys (m .0) (b + (m .0 - a)) e (m .2) (beyond (e - a) (m .0 - a) (e - m .0) (m .0) (b + (m .0 - a)) (omega arith) (omega arith) refl h) ∙ ap At s);
-      }
+unfolding valueField
+value-local =
+    local-by (λ xs c. numberField 4 0 0x7FFFFFFF 4 xs c .value) (λ xs c. numberField 4 0 0x7FFFFFFF 4 xs c .next) (number-local 4 0 0x7FFFFFFF 4) (number-same 4 0 0x7FFFFFFF 4)
+    (λ n xs c. bytesField n xs c .next) bytes-local
 
 pub column-local : Local columnEnd
-unfolding columnEnd lettered
-column-local = lettered-local columnLetters (λ v xs c. cond (eqb v 0x74 || eqb v 0x62) (valueField xs c .next) c) (λ v. go (eqb v 0x74 || eqb v 0x62))
+unfolding columnEnd
+column-local =
+    local-by (λ xs c. letterField columnLetters xs c .value) (λ xs c. letterField columnLetters xs c .next) (letter-local columnLetters) (letter-same columnLetters)
+    (λ v xs c. cond (eqb v 0x74 || eqb v 0x62) (valueField xs c .next) c) (λ v. go (eqb v 0x74 || eqb v 0x62))
   where
     go : (t : Bool) → Local (λ xs c. cond t (valueField xs c .next) c)
     go true = value-local
@@ -296,5 +249,7 @@ unfolding groupsEnd
 groups-local fs n = times-local (groupEnd fs) (group-local fs) n
 
 pub tuple-local : Local tupleEnd
-unfolding tupleEnd counted
-tuple-local = counted-local 2 0 1600 6 (λ n xs c. groupsEnd (column ∷ []) xs n c) (groups-local (column ∷ []))
+unfolding tupleEnd
+tuple-local =
+    local-by (λ xs c. numberField 2 0 mostColumns 6 xs c .value) (λ xs c. numberField 2 0 mostColumns 6 xs c .next) (number-local 2 0 mostColumns 6) (number-same 2 0 mostColumns 6)
+    (λ n xs c. groupsEnd (column ∷ []) xs n c) (groups-local (column ∷ []))

@@ -22,7 +22,7 @@ pub data Writing : Type 0 where
   bytes : List ℕ → Writing
   refused : (n offset : ℕ) → Writing
 
--- past the largest message
+-- the length so far: past the largest message it is too long
 abbrev pub soFar : List ℕ → Writing
 soFar bs = cond (leb (length bs) largest) (bytes bs) (refused 6 0)
 
