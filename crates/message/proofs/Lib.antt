@@ -1,2 +1,12 @@
 pub mod Letters
 pub mod Versions
+pub mod Accepted
+pub mod Parts
+pub mod Local
+pub mod Judged
+pub mod Short
+pub mod Again
+pub mod From
+pub mod Says
+pub mod Back
+pub mod RoundTrip

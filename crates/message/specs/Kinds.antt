@@ -28,20 +28,20 @@ abbrev pub allKinds : List Kind
 allKinds = begin ∷ commit ∷ origin ∷ relation ∷ type ∷ insert ∷ update ∷ delete ∷ truncate ∷ message ∷ streamStart ∷ streamStop ∷ streamCommit ∷ streamAbort ∷ []
 
 abbrev pub letterOf : Kind → ℕ
-letterOf begin = 0x42
-letterOf commit = 0x43
-letterOf origin = 0x4F
-letterOf relation = 0x52
-letterOf type = 0x59
-letterOf insert = 0x49
-letterOf update = 0x55
-letterOf delete = 0x44
-letterOf truncate = 0x54
-letterOf message = 0x4D
-letterOf streamStart = 0x53
-letterOf streamStop = 0x45
-letterOf streamCommit = 0x63
-letterOf streamAbort = 0x41
+letterOf begin = 0x42  -- B
+letterOf commit = 0x43  -- C
+letterOf origin = 0x4F  -- O
+letterOf relation = 0x52  -- R
+letterOf type = 0x59  -- Y
+letterOf insert = 0x49  -- I
+letterOf update = 0x55  -- U
+letterOf delete = 0x44  -- D
+letterOf truncate = 0x54  -- T
+letterOf message = 0x4D  -- M
+letterOf streamStart = 0x53  -- S
+letterOf streamStop = 0x45  -- E
+letterOf streamCommit = 0x63  -- c
+letterOf streamAbort = 0x41  -- A
 
 -- S, E, c and A exist from version 2
 abbrev pub firstVersion : Kind → ℕ

@@ -1,7 +1,7 @@
 -- What a layout is made of, and the one way to read it: fields from left to right, each first for presence and then for content.
 use Prim.Native.Nat.{ℕ, zero, suc}
 use mathlib.Core.List.{List, [], _∷_, _++_}
-use mathlib.Core.Bool.{Bool, true, false, cond, _||_}
+use mathlib.Core.Bool.{Bool, cond, _||_}
 use lib.Dec.{eqb}
 use Rattle.wire.specs.declared.Cursor.{Cursor}
 use Rattle.wire.specs.declared.Field32.{Field32}
@@ -83,7 +83,7 @@ readGroups w low high between fs xs c =
     let b = readGroup between xs (n .next) in
     record {
       values = n .value ∷ b .values ++ (positionOf (b .next) ∷ []);
-      next = groupsEnd fs xs (n .value) (b .next)
+      next = groupsEnd fs xs (n .value) (b .next);
     }
 
 -- the most columns that a tuple or a relation has

@@ -1,6 +1,5 @@
 -- What each version allows (document 01, "Layouts" and refusals 1 and 3).
-use Prim.Native.Nat.{ℕ}
-use mathlib.Core.Bool.{Bool, true, false, not, _&&_, _||_}
+use mathlib.Core.Bool.{Bool, false, not, _&&_, _||_}
 use mathlib.Core.Option.{Option, none, some}
 use lib.Dec.{leb}
 use Rattle.wire.specs.Fields.{inRange}

@@ -1,7 +1,6 @@
 ghost use mathlib.Core.Path.{_≡_};
 ghost use Rattle.message.specs.Kinds.{kindOf, kindNumber, kindNumbered};
 ghost use Rattle.message.specs.Versions.{versionAllows, versionHas};
-
 use wire::Refusal;
 use wire::Span;
 
@@ -85,8 +84,11 @@ pub struct Relation {
 // The letters of a replica identity.
 impl Relation {
     pub const DEFAULT: u8 = b'd';
+
     pub const NOTHING: u8 = b'n';
+
     pub const FULL: u8 = b'f';
+
     pub const INDEX: u8 = b'i';
 }
 
@@ -135,6 +137,7 @@ pub struct Truncate {
 // The bits of a Truncate's options.
 impl Truncate {
     pub const CASCADE: u8 = 1;
+
     pub const RESTART_IDENTITY: u8 = 2;
 }
 
@@ -188,12 +191,8 @@ pub enum Read {
 }
 
 // The number of the kind that a first byte names, and 0 for each other byte.
-const KINDS: [u8; 256] = [
-    0, 0, 0, 0, 0, 0, 0, 0, 0, 0, 0, 0, 0, 0, 0, 0, 0, 0, 0, 0, 0, 0, 0, 0, 0, 0, 0, 0, 0, 0, 0, 0, 0, 0, 0, 0, 0, 0, 0, 0, 0, 0, 0, 0, 0, 0, 0, 0, 0, 0, 0, 0, 0, 0, 0, 0, 0, 0, 0, 0, 0, 0, 0, 0, 0, 14, 1, 2, 8, 12, 0, 0, 0, 6, 0, 0, 0, 10, 0, 3, 0, 0, 4, 11, 9, 7, 0, 0, 0, 5, 0, 0, 0, 0, 0, 0, 0, 0, 0, 13, 0, 0, 0, 0, 0, 0, 0, 0, 0, 0, 0, 0, 0, 0, 0, 0, 0, 0, 0, 0, 0, 0, 0, 0, 0, 0, 0, 0, 0, 0, 0, 0, 0, 0, 0, 0, 0, 0, 0, 0, 0, 0, 0, 0, 0, 0, 0, 0, 0, 0, 0, 0, 0, 0, 0, 0, 0, 0, 0, 0, 0, 0, 0, 0, 0, 0, 0, 0, 0, 0, 0, 0, 0, 0, 0, 0, 0, 0, 0, 0, 0, 0, 0, 0, 0, 0, 0, 0, 0, 0, 0, 0, 0, 0, 0, 0, 0, 0, 0, 0, 0, 0, 0, 0, 0, 0, 0, 0, 0, 0, 0, 0, 0, 0, 0, 0, 0, 0, 0, 0, 0, 0, 0, 0, 0, 0, 0, 0, 0, 0, 0, 0, 0, 0, 0, 0, 0, 0, 0, 0, 0, 0, 0, 0, 0, 0, 0, 0, 0, 0, 0, 0, 0, 0, 0, 0
-];
-
 pub fn kind_of(letter: u8) -> u8
     ensures { λ r. ⌜ r ≡ kindNumber (kindOf letter) ⌝ }
 {
-    KINDS[letter as usize]
+    kind::OF_LETTER[letter as usize]
 }

@@ -1,17 +1,13 @@
 -- The good path of a column. Assumes nothing.
-use Prim.Native.Nat.{ℕ, _+_, _<_, _≤_}
-use mathlib.Core.List.{List, [], _∷_}
-use mathlib.Core.Bool.{Bool, true, false, cond, _&&_, _||_}
-use mathlib.Core.Path.{_≡_, refl, sym, _∙_, ap}
+use Prim.Native.Nat.{ℕ, _+_, _<_}
+use mathlib.Core.List.{List}
+use mathlib.Core.Path.{_≡_}
 use mathlib.Core.Logic.{_⊎_, inl, inr}
-use native.Mathlib.Omega.{arith}
-use borrow.Author.Tests.{le-leb, lt-ltb, eq-eqb, ne-eqb}
+use borrow.Author.Tests.{lt-ltb}
 use lib.ListN.{length, getD}
-use lib.Dec.{leb, ltb, eqb}
-use Rattle.wire.specs.declared.Cursor.{Cursor}
-use Rattle.wire.specs.declared.Cursor.the-variants.{At, Refused}
+use Rattle.wire.specs.declared.Cursor.the-variants.{At}
 use Rattle.wire.specs.Fields.{letterField, valueField, member}
-use Rattle.message.specs.Layout.{columnLetters, columnEnd}
+use Rattle.message.specs.Layout.{columnEnd}
 
 module _ (xs : List ℕ) (at : ℕ) where
   pub column-bare : (getD xs at 0 ≡ 0x6E) ⊎ (getD xs at 0 ≡ 0x75) → at < length xs → columnEnd xs (At at) ≡ At (at + 1)

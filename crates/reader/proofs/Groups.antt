@@ -4,7 +4,7 @@ use mathlib.Core.List.{List}
 use mathlib.Core.Path.{_≡_, refl, ap, sym, _∙_}
 use native.Mathlib.Omega.{arith}
 use Rattle.wire.specs.declared.Cursor.{Cursor}
-use Rattle.message.specs.Layout.{Field, readGroup, times, groupsEnd}
+use Rattle.message.specs.Layout.{Field, readGroup, groupsEnd}
 
 module _ (fs : List Field) (xs : List ℕ) where
   more : (n m : ℕ) (c : Cursor) → 0 < n → m ≡ n - 1 → groupsEnd fs xs n c ≡ groupsEnd fs xs m (readGroup fs xs c .next)

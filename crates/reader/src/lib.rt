@@ -8,7 +8,6 @@ ghost use Rattle.message.specs.Layout.{column, columnEnd, readGroup, groupsEnd,
 ghost use Rattle.message.specs.Kinds.{kindNumbered, columnFields, id, begin, commit, origin, relation, type, insert, update, delete, truncate, message, streamStart, streamStop, streamCommit, streamAbort};
 ghost use Rattle.message.specs.Messages.{refuse, finished, settled, readKind, readNamed, readMessage};
 ghost use Rattle.reader.specs.Old.{oldField};
-
 use message::Begin;
 use message::Commit;
 use message::Delete;
@@ -28,16 +27,19 @@ use message::Update;
 use message::Version;
 use message::kind;
 use wire::Cursor;
+use wire::Field8;
 use wire::Field16;
 use wire::Field32;
 use wire::Field64;
-use wire::Field8;
 use wire::FieldSpan;
 use wire::Refusal;
 
 const MAX32: u32 = 0xFFFF_FFFF;
+
 const MAX64: u64 = 0xFFFF_FFFF_FFFF_FFFF;
+
 const MOST_COLUMNS: u16 = 1600;
+
 const MOST_RELATIONS: u32 = 256;
 
 // An Update's old tuple, and where reading stands after it.
@@ -56,7 +58,10 @@ fn settle(s: &[u8], c: Cursor, m: Message) -> Read
             if at == s.len() {
                 Read::Message(m)
             } else {
-                Read::Refused(Refusal { number: Refusal::LEFT_OVER, offset: at })
+                Read::Refused(Refusal {
+                    number: Refusal::LEFT_OVER,
+                    offset: at,
+                })
             }
         }
     }
@@ -126,7 +131,10 @@ fn tuple_columns(s: &[u8], c: Cursor, n: u16) -> Cursor
         return columns_exact(s, c, n);
     }
     match c {
-        Cursor::Refused { number: _, offset: _ } => columns_exact(s, c, n),
+        Cursor::Refused {
+            number: _,
+            offset: _,
+        } => columns_exact(s, c, n),
         Cursor::At(start) => {
             let mut left = n;
             let mut at = start;
@@ -157,14 +165,23 @@ fn old_tuple(s: &[u8], c: Cursor) -> OldField
 {
     let Field8 { value, next } = wire::letter(s, c, b"KO");
     if value == 0 {
-        return OldField { value: OldTuple::Nothing, next: c };
+        return OldField {
+            value: OldTuple::Nothing,
+            next: c,
+        };
     }
     let start = wire::position(next);
     let next = tuple_end(s, next);
     if value == b'K' {
-        OldField { value: OldTuple::Key(start), next }
+        OldField {
+            value: OldTuple::Key(start),
+            next,
+        }
     } else {
-        OldField { value: OldTuple::Full(start), next }
+        OldField {
+            value: OldTuple::Full(start),
+            next,
+        }
     }
 }
 
@@ -210,11 +227,22 @@ fn read_begin(s: &[u8]) -> Read
     ensures { λ r. ⌜ r ≡ readKind begin false (now (s .entry)) ⌝ }
 {
     let next = Cursor::At(1);
-    let Field64 { value: final_lsn, next } = wire::number64(s, next, 0, MAX64, Refusal::FIELD);
+    let Field64 {
+        value: final_lsn,
+        next,
+    } = wire::number64(s, next, 0, MAX64, Refusal::FIELD);
     let Field64 { value: time, next } = wire::number64(s, next, 0, MAX64, Refusal::FIELD);
     let Field32 { value: xid, next } = wire::number32(s, next, 1, MAX32, Refusal::FIELD);
     let time = wire::signed64(time);
-    settle(s, next, Message::Begin(Begin { final_lsn, time, xid }))
+    settle(
+        s,
+        next,
+        Message::Begin(Begin {
+            final_lsn,
+            time,
+            xid,
+        }),
+    )
 }
 
 fn read_commit(s: &[u8]) -> Read
@@ -222,11 +250,26 @@ fn read_commit(s: &[u8]) -> Read
 {
     let next = Cursor::At(1);
     let Field8 { value: flags, next } = wire::number8(s, next, 0, 0, Refusal::FIELD);
-    let Field64 { value: commit_lsn, next } = wire::number64(s, next, 0, MAX64, Refusal::FIELD);
-    let Field64 { value: end_lsn, next } = wire::number64(s, next, 0, MAX64, Refusal::FIELD);
+    let Field64 {
+        value: commit_lsn,
+        next,
+    } = wire::number64(s, next, 0, MAX64, Refusal::FIELD);
+    let Field64 {
+        value: end_lsn,
+        next,
+    } = wire::number64(s, next, 0, MAX64, Refusal::FIELD);
     let Field64 { value: time, next } = wire::number64(s, next, 0, MAX64, Refusal::FIELD);
     let time = wire::signed64(time);
-    settle(s, next, Message::Commit(Commit { flags, commit_lsn, end_lsn, time }))
+    settle(
+        s,
+        next,
+        Message::Commit(Commit {
+            flags,
+            commit_lsn,
+            end_lsn,
+            time,
+        }),
+    )
 }
 
 fn read_origin(s: &[u8]) -> Read
@@ -242,14 +285,35 @@ fn read_relation(s: &[u8], in_block: bool) -> Read
     ensures { λ r. ⌜ r ≡ readKind relation «in_block» (now (s .entry)) ⌝ }
 {
     let Field32 { value: xid, next } = block_xid(s, Cursor::At(1), in_block);
-    let Field32 { value: relation, next } = wire::number32(s, next, 1, MAX32, Refusal::FIELD);
-    let FieldSpan { value: namespace, next } = wire::text(s, next);
+    let Field32 {
+        value: relation,
+        next,
+    } = wire::number32(s, next, 1, MAX32, Refusal::FIELD);
+    let FieldSpan {
+        value: namespace,
+        next,
+    } = wire::text(s, next);
     let FieldSpan { value: name, next } = wire::text(s, next);
-    let Field8 { value: identity, next } = wire::letter(s, next, b"dnfi");
+    let Field8 {
+        value: identity,
+        next,
+    } = wire::letter(s, next, b"dnfi");
     let Field16 { value: count, next } = wire::number16(s, next, 0, MOST_COLUMNS, Refusal::RANGE);
     let columns = wire::position(next);
     let next = relation_columns(s, next, count);
-    settle(s, next, Message::Relation(Relation { xid, relation, namespace, name, identity, count, columns }))
+    settle(
+        s,
+        next,
+        Message::Relation(Relation {
+            xid,
+            relation,
+            namespace,
+            name,
+            identity,
+            count,
+            columns,
+        }),
+    )
 }
 
 fn read_type(s: &[u8], in_block: bool) -> Read
@@ -257,43 +321,90 @@ fn read_type(s: &[u8], in_block: bool) -> Read
 {
     let Field32 { value: xid, next } = block_xid(s, Cursor::At(1), in_block);
     let Field32 { value: oid, next } = wire::number32(s, next, 0, MAX32, Refusal::FIELD);
-    let FieldSpan { value: namespace, next } = wire::text(s, next);
+    let FieldSpan {
+        value: namespace,
+        next,
+    } = wire::text(s, next);
     let FieldSpan { value: name, next } = wire::text(s, next);
-    settle(s, next, Message::Type(Type { xid, oid, namespace, name }))
+    settle(
+        s,
+        next,
+        Message::Type(Type {
+            xid,
+            oid,
+            namespace,
+            name,
+        }),
+    )
 }
 
 fn read_insert(s: &[u8], in_block: bool) -> Read
     ensures { λ r. ⌜ r ≡ readKind insert «in_block» (now (s .entry)) ⌝ }
 {
     let Field32 { value: xid, next } = block_xid(s, Cursor::At(1), in_block);
-    let Field32 { value: relation, next } = wire::number32(s, next, 1, MAX32, Refusal::FIELD);
+    let Field32 {
+        value: relation,
+        next,
+    } = wire::number32(s, next, 1, MAX32, Refusal::FIELD);
     let Field8 { value: _, next } = wire::letter(s, next, b"N");
     let tuple = wire::position(next);
     let next = tuple_end(s, next);
-    settle(s, next, Message::Insert(Insert { xid, relation, tuple }))
+    settle(
+        s,
+        next,
+        Message::Insert(Insert {
+            xid,
+            relation,
+            tuple,
+        }),
+    )
 }
 
 fn read_update(s: &[u8], in_block: bool) -> Read
     ensures { λ r. ⌜ r ≡ readKind update «in_block» (now (s .entry)) ⌝ }
 {
     let Field32 { value: xid, next } = block_xid(s, Cursor::At(1), in_block);
-    let Field32 { value: relation, next } = wire::number32(s, next, 1, MAX32, Refusal::FIELD);
+    let Field32 {
+        value: relation,
+        next,
+    } = wire::number32(s, next, 1, MAX32, Refusal::FIELD);
     let OldField { value: old, next } = old_tuple(s, next);
     let Field8 { value: _, next } = wire::letter(s, next, b"N");
     let tuple = wire::position(next);
     let next = tuple_end(s, next);
-    settle(s, next, Message::Update(Update { xid, relation, old, tuple }))
+    settle(
+        s,
+        next,
+        Message::Update(Update {
+            xid,
+            relation,
+            old,
+            tuple,
+        }),
+    )
 }
 
 fn read_delete(s: &[u8], in_block: bool) -> Read
     ensures { λ r. ⌜ r ≡ readKind delete «in_block» (now (s .entry)) ⌝ }
 {
     let Field32 { value: xid, next } = block_xid(s, Cursor::At(1), in_block);
-    let Field32 { value: relation, next } = wire::number32(s, next, 1, MAX32, Refusal::FIELD);
+    let Field32 {
+        value: relation,
+        next,
+    } = wire::number32(s, next, 1, MAX32, Refusal::FIELD);
     let Field8 { value: image, next } = wire::letter(s, next, b"KO");
     let tuple = wire::position(next);
     let next = tuple_end(s, next);
-    settle(s, next, Message::Delete(Delete { xid, relation, image, tuple }))
+    settle(
+        s,
+        next,
+        Message::Delete(Delete {
+            xid,
+            relation,
+            image,
+            tuple,
+        }),
+    )
 }
 
 fn read_truncate(s: &[u8], in_block: bool) -> Read
@@ -301,10 +412,22 @@ fn read_truncate(s: &[u8], in_block: bool) -> Read
 {
     let Field32 { value: xid, next } = block_xid(s, Cursor::At(1), in_block);
     let Field32 { value: count, next } = wire::number32(s, next, 1, MOST_RELATIONS, Refusal::RANGE);
-    let Field8 { value: options, next } = wire::number8(s, next, 0, 3, Refusal::FIELD);
+    let Field8 {
+        value: options,
+        next,
+    } = wire::number8(s, next, 0, 3, Refusal::FIELD);
     let relations = wire::position(next);
     let next = relation_oids(s, next, count);
-    settle(s, next, Message::Truncate(Truncate { xid, count, options, relations }))
+    settle(
+        s,
+        next,
+        Message::Truncate(Truncate {
+            xid,
+            count,
+            options,
+            relations,
+        }),
+    )
 }
 
 fn read_logical_message(s: &[u8], in_block: bool) -> Read
@@ -313,9 +436,25 @@ fn read_logical_message(s: &[u8], in_block: bool) -> Read
     let Field32 { value: xid, next } = block_xid(s, Cursor::At(1), in_block);
     let Field8 { value: flags, next } = wire::number8(s, next, 0, 1, Refusal::FIELD);
     let Field64 { value: lsn, next } = wire::number64(s, next, 0, MAX64, Refusal::FIELD);
-    let FieldSpan { value: prefix, next } = wire::text(s, next);
-    let FieldSpan { value: content, next } = wire::value(s, next);
-    settle(s, next, Message::Message(LogicalMessage { xid, flags, lsn, prefix, content }))
+    let FieldSpan {
+        value: prefix,
+        next,
+    } = wire::text(s, next);
+    let FieldSpan {
+        value: content,
+        next,
+    } = wire::value(s, next);
+    settle(
+        s,
+        next,
+        Message::Message(LogicalMessage {
+            xid,
+            flags,
+            lsn,
+            prefix,
+            content,
+        }),
+    )
 }
 
 fn read_stream_start(s: &[u8]) -> Read
@@ -339,11 +478,27 @@ fn read_stream_commit(s: &[u8]) -> Read
     let next = Cursor::At(1);
     let Field32 { value: xid, next } = wire::number32(s, next, 1, MAX32, Refusal::FIELD);
     let Field8 { value: flags, next } = wire::number8(s, next, 0, 0, Refusal::FIELD);
-    let Field64 { value: commit_lsn, next } = wire::number64(s, next, 0, MAX64, Refusal::FIELD);
-    let Field64 { value: end_lsn, next } = wire::number64(s, next, 0, MAX64, Refusal::FIELD);
+    let Field64 {
+        value: commit_lsn,
+        next,
+    } = wire::number64(s, next, 0, MAX64, Refusal::FIELD);
+    let Field64 {
+        value: end_lsn,
+        next,
+    } = wire::number64(s, next, 0, MAX64, Refusal::FIELD);
     let Field64 { value: time, next } = wire::number64(s, next, 0, MAX64, Refusal::FIELD);
     let time = wire::signed64(time);
-    settle(s, next, Message::StreamCommit(StreamCommit { xid, flags, commit_lsn, end_lsn, time }))
+    settle(
+        s,
+        next,
+        Message::StreamCommit(StreamCommit {
+            xid,
+            flags,
+            commit_lsn,
+            end_lsn,
+            time,
+        }),
+    )
 }
 
 fn read_stream_abort(s: &[u8]) -> Read
@@ -351,7 +506,10 @@ fn read_stream_abort(s: &[u8]) -> Read
 {
     let next = Cursor::At(1);
     let Field32 { value: xid, next } = wire::number32(s, next, 1, MAX32, Refusal::FIELD);
-    let Field32 { value: sub_xid, next } = wire::number32(s, next, 1, MAX32, Refusal::FIELD);
+    let Field32 {
+        value: sub_xid,
+        next,
+    } = wire::number32(s, next, 1, MAX32, Refusal::FIELD);
     settle(s, next, Message::StreamAbort(StreamAbort { xid, sub_xid }))
 }
 

@@ -1,14 +1,14 @@
 -- The laws of fields, sets of letters and texts. Assumes nothing.
-use Prim.Native.Nat.{ℕ, zero, suc, _+_, _-_, _<_, _≤_}
-use mathlib.Core.List.{List, [], _∷_}
-use mathlib.Core.Bool.{Bool, true, false, cond, _&&_, _||_}
+use Prim.Native.Nat.{ℕ, _+_, _-_, _<_, _≤_}
+use mathlib.Core.List.{List}
+use mathlib.Core.Bool.{Bool, true, false, cond, _&&_}
 use mathlib.Core.Path.{_≡_, refl}
 use native.Mathlib.Numerals.{add-one}
 use native.Mathlib.Omega.{arith}
 use borrow.Author.Tests.{eq-eqb, ne-eqb, leb-true, lt-ltb, le-ltb}
 use lib.ListN.{length, getD, drop, drop-of-length-le}
 use lib.Seq.{drop-cons}
-use lib.Dec.{leb, eqb}
+use lib.Dec.{leb}
 use Rattle.wire.specs.declared.Word.{Word}
 use Rattle.wire.specs.declared.Word.the-variants.{Value, Short}
 use Rattle.wire.specs.declared.Cursor.{Cursor}
@@ -17,7 +17,7 @@ use Rattle.wire.specs.declared.Field64.{Field64}
 use Rattle.wire.specs.declared.FieldSpan.{FieldSpan}
 use Rattle.wire.specs.declared.Field8.{Field8}
 use Rattle.wire.specs.Numbers.{wordAt}
-use Rattle.wire.specs.Fields.{numberField, judged, inRange, member, untilZero, textField, noSpan, letterField, noLetter}
+use Rattle.wire.specs.Fields.{numberField, judged, member, untilZero, textField, noSpan, letterField, noLetter}
 
 -- a number that was read is at most its field's highest
 pub value-le : (w low high n : ℕ) (xs : List ℕ) (c : Cursor) → numberField w low high n xs c .value ≤ high

@@ -3,3 +3,5 @@ pub mod Fields
 pub mod Cases
 pub mod Signed
 pub mod Values
+pub mod There
+pub mod Bits

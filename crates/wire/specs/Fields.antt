@@ -1,8 +1,8 @@
 -- One field at a cursor: first whether it is there, then what it holds (document 01, "The refusal table").
 -- A cursor that has refused stays as it is, so that a layout is read from left to right with no branches.
-use Prim.Native.Nat.{ℕ, zero, suc, _+_}
+use Prim.Native.Nat.{ℕ, suc, _+_}
 use mathlib.Core.List.{List, [], _∷_}
-use mathlib.Core.Bool.{Bool, true, false, cond, _&&_, _||_}
+use mathlib.Core.Bool.{Bool, false, cond, _&&_, _||_}
 use lib.ListN.{length, getD, drop}
 use lib.Dec.{ltb, leb, eqb}
 use Rattle.wire.specs.declared.Word.{Word}

@@ -2,7 +2,7 @@ ghost use mathlib.Core.Path.{_≡_};
 ghost use Prim.Native.Nat.{_+_, _≤_};
 ghost use lib.ListN.{drop};
 ghost use lib.IntN.{ℤ};
-ghost use mir.Val.{toZ};
+ghost use mir.Val.{toZ, ofZ};
 ghost use mir.Syntax.{w32, w64};
 ghost use Rattle.wire.specs.Numbers.{wordAt};
 ghost use Rattle.wire.specs.Fields.{member, numberField, letterField, untilZero, textField, bytesField, valueField, valueEnd, narrow8, narrow16, narrow32, positionOf};
@@ -112,22 +112,37 @@ fn number(s: &[u8], c: Cursor, width: usize, low: u64, high: u64, refusal: u8) -
     ensures { λ r. ⌜ r ≡ numberField width low high refusal (now (s .entry)) c ⌝ }
 {
     match c {
-        Cursor::Refused { number: _, offset: _ } => Field64 { value: 0, next: c },
+        Cursor::Refused {
+            number: _,
+            offset: _,
+        } => Field64 { value: 0, next: c },
         Cursor::At(at) => {
             let w = word_at(s, at, width);
             match w {
                 Word::Short => Field64 {
                     value: 0,
-                    next: Cursor::Refused { number: Refusal::SHORT, offset: at },
+                    next: Cursor::Refused {
+                        number: Refusal::SHORT,
+                        offset: at,
+                    },
                 },
                 Word::Value(v) => {
                     if low <= v {
                         if v <= high {
                             let end = at + width;
-                            return Field64 { value: v, next: Cursor::At(end) };
+                            return Field64 {
+                                value: v,
+                                next: Cursor::At(end),
+                            };
                         }
                     }
-                    Field64 { value: 0, next: Cursor::Refused { number: refusal, offset: at } }
+                    Field64 {
+                        value: 0,
+                        next: Cursor::Refused {
+                            number: refusal,
+                            offset: at,
+                        },
+                    }
                 }
             }
         }
@@ -185,13 +200,27 @@ pub fn signed64(v: u64) -> i64
     }
 }
 
+// The bits of a signed number.
+pub fn bits64(v: i64) -> u64
+    ensures { λ r. ⌜ r ≡ ofZ w64 v ⌝ }
+{
+    if v < 0 {
+        0xFFFF_FFFF_FFFF_FFFF - ((-1 - v) as u64)
+    } else {
+        v as u64
+    }
+}
+
 // Where a cursor stands, and 0 where it has refused.
 pub fn position(c: Cursor) -> usize
     ensures { λ r. ⌜ r ≡ positionOf c ⌝ }
 {
     match c {
         Cursor::At(at) => at,
-        Cursor::Refused { number: _, offset: _ } => 0,
+        Cursor::Refused {
+            number: _,
+            offset: _,
+        } => 0,
     }
 }
 
@@ -214,17 +243,35 @@ pub fn letter(s: &[u8], c: Cursor, set: &[u8]) -> Field8
     ensures { λ r. ⌜ r ≡ letterField (now (set .entry)) (now (s .entry)) c ⌝ }
 {
     match c {
-        Cursor::Refused { number: _, offset: _ } => Field8 { value: 0, next: c },
+        Cursor::Refused {
+            number: _,
+            offset: _,
+        } => Field8 { value: 0, next: c },
         Cursor::At(at) => {
             if at < s.len() {
                 let b = s[at];
                 if contains(set, b) {
-                    Field8 { value: b, next: Cursor::At(at + 1) }
+                    Field8 {
+                        value: b,
+                        next: Cursor::At(at + 1),
+                    }
                 } else {
-                    Field8 { value: 0, next: Cursor::Refused { number: Refusal::FIELD, offset: at } }
+                    Field8 {
+                        value: 0,
+                        next: Cursor::Refused {
+                            number: Refusal::FIELD,
+                            offset: at,
+                        },
+                    }
                 }
             } else {
-                Field8 { value: 0, next: Cursor::Refused { number: Refusal::SHORT, offset: at } }
+                Field8 {
+                    value: 0,
+                    next: Cursor::Refused {
+                        number: Refusal::SHORT,
+                        offset: at,
+                    },
+                }
             }
         }
     }
@@ -249,17 +296,35 @@ pub fn text(s: &[u8], c: Cursor) -> FieldSpan
     ensures { λ r. ⌜ r ≡ textField (now (s .entry)) c ⌝ }
 {
     match c {
-        Cursor::Refused { number: _, offset: _ } => FieldSpan { value: Span { start: 0, length: 0 }, next: c },
+        Cursor::Refused {
+            number: _,
+            offset: _,
+        } => FieldSpan {
+            value: Span {
+                start: 0,
+                length: 0,
+            },
+            next: c,
+        },
         Cursor::At(at) => {
             let end = zero_from(s, at);
             if end < s.len() {
                 let length = end - at;
                 let next = end + 1;
-                FieldSpan { value: Span { start: at, length }, next: Cursor::At(next) }
+                FieldSpan {
+                    value: Span { start: at, length },
+                    next: Cursor::At(next),
+                }
             } else {
                 FieldSpan {
-                    value: Span { start: 0, length: 0 },
-                    next: Cursor::Refused { number: Refusal::SHORT, offset: at },
+                    value: Span {
+                        start: 0,
+                        length: 0,
+                    },
+                    next: Cursor::Refused {
+                        number: Refusal::SHORT,
+                        offset: at,
+                    },
                 }
             }
         }
@@ -271,17 +336,38 @@ pub fn bytes(s: &[u8], c: Cursor, n: usize) -> FieldSpan
     ensures { λ r. ⌜ r ≡ bytesField n (now (s .entry)) c ⌝ }
 {
     match c {
-        Cursor::Refused { number: _, offset: _ } => FieldSpan { value: Span { start: 0, length: 0 }, next: c },
+        Cursor::Refused {
+            number: _,
+            offset: _,
+        } => FieldSpan {
+            value: Span {
+                start: 0,
+                length: 0,
+            },
+            next: c,
+        },
         Cursor::At(at) => {
             if at <= s.len() {
                 if n <= s.len() - at {
                     let end = at + n;
-                    return FieldSpan { value: Span { start: at, length: n }, next: Cursor::At(end) };
+                    return FieldSpan {
+                        value: Span {
+                            start: at,
+                            length: n,
+                        },
+                        next: Cursor::At(end),
+                    };
                 }
             }
             FieldSpan {
-                value: Span { start: 0, length: 0 },
-                next: Cursor::Refused { number: Refusal::SHORT, offset: at },
+                value: Span {
+                    start: 0,
+                    length: 0,
+                },
+                next: Cursor::Refused {
+                    number: Refusal::SHORT,
+                    offset: at,
+                },
             }
         }
     }

@@ -1,5 +1,4 @@
-use Prim.Native.Nat.{_<_}
-use mathlib.Core.Path.{_≡_, ap, sym, subst, _∙_}
+use mathlib.Core.Path.{ap, sym, _∙_}
 use native.Mathlib.Omega.{arith}
 use borrow.Author.Needs.{needs}
 use Rattle.wire.specs.declared.Cursor.the-variants.{At}

@@ -1,10 +1,9 @@
 use Prim.Native.Nat.{_≤_}
-use mathlib.Core.Path.{_≡_, refl, ap}
+use mathlib.Core.Path.{_≡_, refl}
 use mathlib.Core.List.{[], _∷_}
 use native.Mathlib.Omega.{arith}
 use borrow.Author.Needs.{needs}
 use Rattle.message.specs.Layout.{groupsEnd, column}
-use Rattle.message.specs.Kinds.{columnFields, id}
 use Rattle.reader.proofs.Groups.{turn, done}
 use Rattle.reader.proofs.columns_exact.Statement.{statement}
 use Rattle.reader.proofs.columns_exact.Tie as tie

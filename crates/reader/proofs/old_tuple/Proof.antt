@@ -1,4 +1,3 @@
-use mathlib.Core.Path.{_≡_}
 use borrow.Author.Needs.{needs}
 use Rattle.reader.proofs.Columns.{old-none, old-key, old-full, key-or-old}
 use Rattle.reader.proofs.old_tuple.Statement.{statement}

@@ -22,13 +22,14 @@ settle-requires c κs = tt
 returns : tie.Need-returns
 unfolding readKind
 returns c =
-    rw
-    (c .settle .ensures,
-     toZ-ofZ w64 (c .before .signed64 .result) (record { sfits = c .before .signed64 .ok }),
-     c .before .signed64 .ensures,
-     c .before .before .number32 .ensures,
-     c .before .before .before .number642 .ensures,
-     c .before .before .before .before .number64 .ensures)
+    rw (
+      c .settle .ensures,
+      toZ-ofZ w64 (c .before .signed64 .result) (record { sfits = c .before .signed64 .ok }),
+      c .before .signed64 .ensures,
+      c .before .before .number32 .ensures,
+      c .before .before .before .number642 .ensures,
+      c .before .before .before .before .number64 .ensures,
+    )
 
 pub read-begin-spec : {M : Type 1} → statement M
 read-begin-spec =

@@ -25,14 +25,15 @@ settle-requires c κs = tt
 returns : tie.Need-returns
 unfolding readKind
 returns c =
-    rw
-    (c .settle .ensures,
-     toZ-ofZ w64 (c .before .signed64 .result) (record { sfits = c .before .signed64 .ok }),
-     c .before .signed64 .ensures,
-     c .before .before .number643 .ensures,
-     c .before .before .before .number642 .ensures,
-     c .before .before .before .before .number64 .ensures,
-     c .before .before .before .before .before .number8 .ensures)
+    rw (
+      c .settle .ensures,
+      toZ-ofZ w64 (c .before .signed64 .result) (record { sfits = c .before .signed64 .ok }),
+      c .before .signed64 .ensures,
+      c .before .before .number643 .ensures,
+      c .before .before .before .number642 .ensures,
+      c .before .before .before .before .number64 .ensures,
+      c .before .before .before .before .before .number8 .ensures,
+    )
 
 pub read-commit-spec : {M : Type 1} → statement M
 read-commit-spec =

@@ -27,13 +27,14 @@ settle-requires c κs = tt
 returns : tie.Need-returns
 unfolding readKind
 returns c =
-    rw
-    (c .settle .ensures,
-     c .before .tuple-end .ensures,
-     c .before .before .position .ensures,
-     c .before .before .before .letter .ensures,
-     c .before .before .before .before .before .number32 .ensures,
-     c .before .before .before .before .before .before .block-xid .ensures)
+    rw (
+      c .settle .ensures,
+      c .before .tuple-end .ensures,
+      c .before .before .position .ensures,
+      c .before .before .before .letter .ensures,
+      c .before .before .before .before .before .number32 .ensures,
+      c .before .before .before .before .before .before .block-xid .ensures,
+    )
 
 pub read-insert-spec : {M : Type 1} → statement M
 read-insert-spec =

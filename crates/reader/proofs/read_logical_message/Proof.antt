@@ -23,13 +23,14 @@ settle-requires c κs = tt
 returns : tie.Need-returns
 unfolding readKind
 returns c =
-    rw
-    (c .settle .ensures,
-     c .before .before .value .ensures,
-     c .before .before .before .before .text .ensures,
-     c .before .before .before .before .before .number64 .ensures,
-     c .before .before .before .before .before .before .number8 .ensures,
-     c .before .before .before .before .before .before .before .block-xid .ensures)
+    rw (
+      c .settle .ensures,
+      c .before .before .value .ensures,
+      c .before .before .before .before .text .ensures,
+      c .before .before .before .before .before .number64 .ensures,
+      c .before .before .before .before .before .before .number8 .ensures,
+      c .before .before .before .before .before .before .before .block-xid .ensures,
+    )
 
 pub read-logical-message-spec : {M : Type 1} → statement M
 read-logical-message-spec =

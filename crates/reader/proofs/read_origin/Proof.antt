@@ -14,10 +14,11 @@ settle-requires c κs = tt
 returns : tie.Need-returns
 unfolding readKind
 returns c =
-    rw
-    (c .settle .ensures,
-     c .before .before .text .ensures,
-     c .before .before .before .number64 .ensures)
+    rw (
+      c .settle .ensures,
+      c .before .before .text .ensures,
+      c .before .before .before .number64 .ensures,
+    )
 
 pub read-origin-spec : {M : Type 1} → statement M
 read-origin-spec = tie.close (tie.spec number64-requires text-requires settle-requires returns)

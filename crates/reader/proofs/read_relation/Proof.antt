@@ -36,16 +36,17 @@ settle-requires c κs = tt
 returns : tie.Need-returns
 unfolding readKind
 returns c =
-    rw
-    (c .settle .ensures,
-     c .before .relation-columns .ensures,
-     c .before .before .position .ensures,
-     c .before .before .before .number16 .ensures,
-     c .before .before .before .before .letter .ensures,
-     c .before .before .before .before .before .before .before .text2 .ensures,
-     c .before .before .before .before .before .before .before .before .before .text .ensures,
-     c .before .before .before .before .before .before .before .before .before .before .number32 .ensures,
-     c .before .before .before .before .before .before .before .before .before .before .before .block-xid .ensures)
+    rw (
+      c .settle .ensures,
+      c .before .relation-columns .ensures,
+      c .before .before .position .ensures,
+      c .before .before .before .number16 .ensures,
+      c .before .before .before .before .letter .ensures,
+      c .before .before .before .before .before .before .before .text2 .ensures,
+      c .before .before .before .before .before .before .before .before .before .text .ensures,
+      c .before .before .before .before .before .before .before .before .before .before .number32 .ensures,
+      c .before .before .before .before .before .before .before .before .before .before .before .block-xid .ensures,
+    )
 
 pub read-relation-spec : {M : Type 1} → statement M
 read-relation-spec =

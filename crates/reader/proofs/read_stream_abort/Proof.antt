@@ -14,10 +14,11 @@ settle-requires c κs = tt
 returns : tie.Need-returns
 unfolding readKind
 returns c =
-    rw
-    (c .settle .ensures,
-     c .before .number322 .ensures,
-     c .before .before .number32 .ensures)
+    rw (
+      c .settle .ensures,
+      c .before .number322 .ensures,
+      c .before .before .number32 .ensures,
+    )
 
 pub read-stream-abort-spec : {M : Type 1} → statement M
 read-stream-abort-spec =

@@ -14,10 +14,11 @@ settle-requires c κs = tt
 returns : tie.Need-returns
 unfolding readKind
 returns c =
-    rw
-    (c .settle .ensures,
-     c .before .number8 .ensures,
-     c .before .before .number32 .ensures)
+    rw (
+      c .settle .ensures,
+      c .before .number8 .ensures,
+      c .before .before .number32 .ensures,
+    )
 
 pub read-stream-start-spec : {M : Type 1} → statement M
 read-stream-start-spec =

@@ -23,13 +23,14 @@ settle-requires c κs = tt
 returns : tie.Need-returns
 unfolding readKind
 returns c =
-    rw
-    (c .settle .ensures,
-     c .before .relation-oids .ensures,
-     c .before .before .position .ensures,
-     c .before .before .before .number8 .ensures,
-     c .before .before .before .before .number32 .ensures,
-     c .before .before .before .before .before .block-xid .ensures)
+    rw (
+      c .settle .ensures,
+      c .before .relation-oids .ensures,
+      c .before .before .position .ensures,
+      c .before .before .before .number8 .ensures,
+      c .before .before .before .before .number32 .ensures,
+      c .before .before .before .before .before .block-xid .ensures,
+    )
 
 pub read-truncate-spec : {M : Type 1} → statement M
 read-truncate-spec =

@@ -20,12 +20,13 @@ settle-requires c κs = tt
 returns : tie.Need-returns
 unfolding readKind
 returns c =
-    rw
-    (c .settle .ensures,
-     c .before .before .text2 .ensures,
-     c .before .before .before .before .text .ensures,
-     c .before .before .before .before .before .number32 .ensures,
-     c .before .before .before .before .before .before .block-xid .ensures)
+    rw (
+      c .settle .ensures,
+      c .before .before .text2 .ensures,
+      c .before .before .before .before .text .ensures,
+      c .before .before .before .before .before .number32 .ensures,
+      c .before .before .before .before .before .before .block-xid .ensures,
+    )
 
 pub read-type-spec : {M : Type 1} → statement M
 read-type-spec =

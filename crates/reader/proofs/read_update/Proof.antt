@@ -31,14 +31,15 @@ settle-requires c κs = tt
 returns : tie.Need-returns
 unfolding readKind oldField
 returns c =
-    rw
-    (c .settle .ensures,
-     c .before .tuple-end .ensures,
-     c .before .before .position .ensures,
-     c .before .before .before .letter .ensures,
-     c .before .before .before .before .before .old-tuple .ensures,
-     c .before .before .before .before .before .before .number32 .ensures,
-     c .before .before .before .before .before .before .before .block-xid .ensures)
+    rw (
+      c .settle .ensures,
+      c .before .tuple-end .ensures,
+      c .before .before .position .ensures,
+      c .before .before .before .letter .ensures,
+      c .before .before .before .before .before .old-tuple .ensures,
+      c .before .before .before .before .before .before .number32 .ensures,
+      c .before .before .before .before .before .before .before .block-xid .ensures,
+    )
 
 pub read-update-spec : {M : Type 1} → statement M
 read-update-spec =

@@ -15,11 +15,12 @@ number32-requires-2 c κs = tt
 
 returns : tie.Need-returns
 returns c =
-    rw
-    (c .number322 .ensures,
-     c .before .number32 .ensures,
-     c .before .before .text .ensures,
-     c .before .before .before .number8 .ensures)
+    rw (
+      c .number322 .ensures,
+      c .before .number32 .ensures,
+      c .before .before .text .ensures,
+      c .before .before .before .number8 .ensures,
+    )
 
 pub relation-column-spec : {M : Type 1} → statement M
 relation-column-spec =

@@ -1,10 +1,9 @@
 use Prim.Native.Nat.{_≤_}
-use mathlib.Core.Path.{_≡_, refl, ap}
-use mathlib.Core.List.{[], _∷_}
+use mathlib.Core.Path.{_≡_, refl}
 use native.Mathlib.Omega.{arith}
 use borrow.Author.Needs.{needs}
-use Rattle.message.specs.Layout.{groupsEnd, column}
-use Rattle.message.specs.Kinds.{columnFields, id}
+use Rattle.message.specs.Layout.{groupsEnd}
+use Rattle.message.specs.Kinds.{columnFields}
 use Rattle.reader.proofs.Groups.{turn, done}
 use Rattle.reader.proofs.relation_columns.Statement.{statement}
 use Rattle.reader.proofs.relation_columns.Tie as tie

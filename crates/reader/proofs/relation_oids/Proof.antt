@@ -3,8 +3,8 @@ use mathlib.Core.Path.{_≡_, refl, ap}
 use mathlib.Core.List.{[], _∷_}
 use native.Mathlib.Omega.{arith}
 use borrow.Author.Needs.{needs}
-use Rattle.message.specs.Layout.{groupsEnd, column}
-use Rattle.message.specs.Kinds.{columnFields, id}
+use Rattle.message.specs.Layout.{groupsEnd}
+use Rattle.message.specs.Kinds.{id}
 use Rattle.reader.proofs.Groups.{turn, done}
 use Rattle.wire.specs.declared.Field32.{Field32}
 use Rattle.reader.proofs.relation_oids.Statement.{statement}

@@ -1,4 +1,3 @@
-use mathlib.Core.Path.{_≡_, ap}
 use Rattle.reader.proofs.Columns.{column-text, column-binary, column-bare}
 use borrow.Author.Needs.{needs}
 use Rattle.reader.proofs.tuple_column.Statement.{statement}

@@ -11,9 +11,10 @@ tuple-columns-requires c κs = tt
 returns : tie.Need-returns
 unfolding tupleEnd
 returns c =
-    rw
-    (c .tuple-columns .ensures,
-     c .before .number16 .ensures)
+    rw (
+      c .tuple-columns .ensures,
+      c .before .number16 .ensures,
+    )
 
 pub tuple-end-spec : {M : Type 1} → statement M
 tuple-end-spec = tie.close (tie.spec number16-requires tuple-columns-requires returns)

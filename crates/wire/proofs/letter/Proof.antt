@@ -1,4 +1,4 @@
-use mathlib.Core.Path.{_≡_, sym, _∙_}
+use mathlib.Core.Path.{sym, _∙_}
 use Rattle.wire.specs.Fields.{letterField}
 use Rattle.wire.proofs.Fields.{letter-good, letter-bad, letter-short}
 use borrow.Author.Needs.{needs}

@@ -3,7 +3,7 @@ use borrow.Author.Tests.{le-leb, lt-leb}
 use native.Mathlib.Omega.{arith}
 use mathlib.Core.Path.{_≡_, sym, _∙_}
 use denote.Ref.{now}
-use Rattle.wire.specs.declared.Word.the-variants.{Value, Short}
+use Rattle.wire.specs.declared.Word.the-variants.{Value}
 use Rattle.wire.specs.Numbers.{wordAt}
 use Rattle.wire.specs.Fields.{numberField}
 use Rattle.wire.proofs.Numbers.{word-value}

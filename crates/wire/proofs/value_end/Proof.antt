@@ -1,4 +1,4 @@
-use Prim.Native.Nat.{ℕ, _+_, _<_, _≤_}
+use Prim.Native.Nat.{_+_, _<_, _≤_}
 use mathlib.Core.Path.{_≡_, sym, _∙_}
 use native.Mathlib.Omega.{arith}
 use borrow.Author.Needs.{needs}
@@ -10,9 +10,6 @@ use Rattle.wire.proofs.Numbers.{word-value, word-is, word-none}
 use Rattle.wire.proofs.Values.{end-short, end-past, end-there}
 use Rattle.wire.proofs.value_end.Statement.{statement}
 use Rattle.wire.proofs.value_end.Tie as tie
-use Rattle.wire.proofs.value_end.Reads as reads
-use Rattle.wire.proofs.value_end.Lts as lts
-use Rattle.wire.proofs.word_at.Reads as word-at-reads
 
 word-at-requires : tie.Need-word-at-requires
 word-at-requires c κs = search needs

@@ -2,13 +2,11 @@
 use Prim.Native.Nat.{ℕ, _+_, _*_, _^_, _<_, _≤_, _-_}
 use mathlib.Core.Path.{_≡_, refl, sym, _∙_, ap}
 use native.Mathlib.Omega.{arith}
-use native.Mathlib.Numerals.{add-one}
 use borrow.Author.Needs.{needs}
-use borrow.Author.Tests.{le-leb, lt-leb}
 use denote.Ref.{now}
 use Rattle.wire.specs.declared.Word.the-variants.{Value}
-use lib.ListN.{length, getD}
-use Rattle.wire.specs.Numbers.{be, wordAt}
+use lib.ListN.{getD}
+use Rattle.wire.specs.Numbers.{be}
 use Rattle.wire.proofs.Numbers.{more, within, be-more, word-short, word-there}
 use Rattle.wire.proofs.word_at.Statement.{statement}
 use Rattle.wire.proofs.word_at.Tie as tie
@@ -64,10 +62,11 @@ loop-less : tie.Need-loop-less Inv-loop μ-loop
 loop-less c = omega arith
 
 loop-again : tie.Need-loop-again Inv-loop μ-loop
-loop-again c =
-    (omega arith,
-     rw (be-more, ← c .before .before .loop .inv .1),
-     more _ (c .before .before .loop .inv .2) (byte c))
+loop-again c = (
+  omega arith,
+  rw (be-more, ← c .before .before .loop .inv .1),
+  more _ (c .before .before .loop .inv .2) (byte c),
+)
 
 returns-3 : tie.Need-returns-3 Inv-loop μ-loop
 returns-3 c =

@@ -1,9 +1,8 @@
 use denote.Ref.{now}
-use Prim.Native.Nat.{ℕ, _+_, _≤_, _<_, _-_}
+use Prim.Native.Nat.{_+_, _-_}
 use native.Mathlib.Omega.{arith}
-use mathlib.Core.Path.{_≡_, refl, sym, _∙_, ap}
-use mathlib.Core.Bool.{true, false}
-use lib.ListN.{length, getD, drop}
+use mathlib.Core.Path.{_≡_, refl}
+use lib.ListN.{length, drop}
 use Rattle.wire.specs.Fields.{untilZero}
 use Rattle.wire.proofs.Fields.{until-here, until-next, until-end}
 use Rattle.wire.proofs.zero_from.Statement.{statement}

@@ -1,5 +1,5 @@
 use mathlib.Core.Bool.{Bool, true, false, not, _||_}
-use mathlib.Core.Path.{_≡_, refl, sym, _∙_}
+use mathlib.Core.Path.{_≡_, refl, sym}
 use Rattle.message.specs.Versions.{versionAllows}
 use Rattle.message.proofs.Versions.{from-two}
 use Rattle.message.proofs.Version.allows.Statement.{statement}

@@ -1,6 +1,4 @@
-use mathlib.Core.Bool.{true, false}
-use mathlib.Core.Path.{_≡_, refl, sym, _∙_}
-use native.Mathlib.Omega.{arith}
+use mathlib.Core.Path.{sym, _∙_}
 use lib.Dec.{leb}
 use borrow.Author.Needs.{needs}
 use Rattle.message.proofs.Versions.{from-two, early, late, below, beyond}

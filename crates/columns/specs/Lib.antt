@@ -1,0 +1,5 @@
+pub mod Parts
+pub mod Starts
+pub mod Steps
+pub mod Visits
+pub mod Readers

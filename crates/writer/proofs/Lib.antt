@@ -1,0 +1,5 @@
+pub mod Judge
+pub mod Stores
+pub mod Whole
+pub mod Old
+pub mod RoundTrips
