@@ -31,7 +31,8 @@ below v s t = go v s (ap (λ (z : ℤ). ltZ z (pos 0)) (sym (toZ-ofZ w64 v s)) �
     go (pos a) s t = absurd (omega (arith, ltb-true a 0 t))
     go (negsuc n) s t =
         let f : negsuc 0 -ℤ toZ w64 (ofZ w64 (negsuc n)) ≡ pos n = ap (λ (z : ℤ). negsuc 0 -ℤ z) (toZ-ofZ w64 (negsuc n) s) ∙ flip n in
-        record { n = n; small = s .sfits; flipped = f; back = ap (λ (z : ℤ). toZ w64 (ofZ w64 z)) f ∙ toZ-ofZ w64 (pos n) (record { sfits = s .sfits }) }
+        let b = ap (λ (z : ℤ). toZ w64 (ofZ w64 z)) f ∙ toZ-ofZ w64 (pos n) (record { sfits = s .sfits }) in
+        record { n = n; small = s .sfits; flipped = f; back = b }
 
 -- any other number
 pub above : (v : ℤ) → SFits w64 v → ltZ (toZ w64 (ofZ w64 v)) (pos 0) ≡ false → (n : ℕ) × (n < 2 ^ 63) × (toZ w64 (ofZ w64 v) ≡ pos n)

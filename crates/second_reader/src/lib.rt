@@ -45,10 +45,10 @@ const ROOM: usize = 16;
 
 // A refusal's number and offset, or 0, where the next field starts, and what was found: a number, a letter, or how many
 // bytes or columns.
-pub struct Step {
-    pub number: u8,
-    pub at: usize,
-    pub value: u64,
+struct Step {
+    number: u8,
+    at: usize,
+    value: u64,
 }
 
 // A refusal's number and offset, or 0 and the end of the tuple, its columns and the bytes of its values.

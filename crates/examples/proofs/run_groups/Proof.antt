@@ -45,7 +45,9 @@ print-tally-requires : tie.Need-print-tally-requires Inv-loop μ-loop
 print-tally-requires c κs = tt
 
 loop-less : tie.Need-loop-less Inv-loop μ-loop
-loop-less c = omega (arith, c .before .before .before .before .before .before .before .before .before .next-line .ensures .beyond (omega arith), c .before .before .before .before .before .before .before .before .next-group2 .ensures .onward (omega arith))
+loop-less c =
+    let l = c .before .before .before .before .before .before .before .before in
+    omega (arith, l .before .next-line .ensures .beyond (omega arith), l .next-group2 .ensures .onward (omega arith))
 
 loop-again : tie.Need-loop-again Inv-loop μ-loop
 loop-again c = omega arith

@@ -21,7 +21,9 @@ returns : tie.Need-returns
 returns c = search needs
 
 returns-2 : tie.Need-returns-2
-returns-2 c = c .with3 .ensures _ (c .before .with2 .ensures _ (c .before .before .with .ensures _ (c .before .before .before .before .before .before .before .pre)))
+returns-2 c =
+    let start = c .before .before .before .before .before .before .before in
+    c .with3 .ensures _ (c .before .with2 .ensures _ (c .before .before .with .ensures _ (start .pre)))
 
 pub keep-old-tuple-if-there-spec : {M : Type 1} → statement M
 keep-old-tuple-if-there-spec =

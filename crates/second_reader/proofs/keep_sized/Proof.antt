@@ -25,7 +25,10 @@ with-requires-2 : tie.Need-with-requires-2
 with-requires-2 c κs = search needs
 
 returns-2 : tie.Need-returns-2
-returns-2 c = c .with2 .ensures _ (c .before .with .ensures _ (c .before .before .moved .ensures _ (c .before .before .before .before .before .before .before .before .pre) (omega arith) (omega arith)))
+returns-2 c =
+    let start = c .before .before .before .before .before .before .before .before in
+    c .with2 .ensures _
+    (c .before .with .ensures _ (c .before .before .moved .ensures _ (start .pre) (omega arith) (omega arith)))
 
 pub keep-sized-spec : {M : Type 1} → statement M
 keep-sized-spec =

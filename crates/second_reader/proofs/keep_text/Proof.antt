@@ -16,7 +16,10 @@ with-requires-2 : tie.Need-with-requires-2
 with-requires-2 c κs = search needs
 
 returns : tie.Need-returns
-returns c = c .with2 .ensures _ (c .before .with .ensures _ (c .before .before .moved .ensures _ (c .before .before .before .before .before .pre) (omega arith) (omega arith)))
+returns c =
+    let start = c .before .before .before .before .before in
+    c .with2 .ensures _
+    (c .before .with .ensures _ (c .before .before .moved .ensures _ (start .pre) (omega arith) (omega arith)))
 
 pub keep-text-spec : {M : Type 1} → statement M
 keep-text-spec =

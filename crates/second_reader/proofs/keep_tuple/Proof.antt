@@ -19,7 +19,12 @@ with-requires-2 : tie.Need-with-requires-2
 with-requires-2 c κs = search needs
 
 returns-2 : tie.Need-returns-2
-returns-2 c = c .with2 .ensures _ (c .before .with .ensures _ (c .before .before .moved .ensures _ (c .before .before .before .before .before .before .before .pre) (omega arith) (c .before .before .before .read-tuple .ensures .within (omega arith))))
+returns-2 c =
+    let start = c .before .before .before .before .before .before .before in
+    let read = c .before .before .before .read-tuple .ensures in
+    c .with2 .ensures _
+    (c .before .with .ensures _
+    (c .before .before .moved .ensures _ (start .pre) (omega arith) (read .within (omega arith))))
 
 pub keep-tuple-spec : {M : Type 1} → statement M
 keep-tuple-spec =

@@ -7,7 +7,9 @@ sub-result : tie.Need-sub-result
 sub-result c = let f = below (c .before .args .v) (c .before .fits .v) (c .if1 .taken) in rw (f .flipped) (record { sfits = f .small })
 
 cast-result : tie.Need-cast-result
-cast-result c = let f = below (c .before .args .v) (c .before .fits .v) (c .if1 .taken) in rw (f .back) (tt, record { fits = omega (arith, f .small) })
+cast-result c =
+    let f = below (c .before .args .v) (c .before .fits .v) (c .if1 .taken) in
+    rw (f .back) (tt, record { fits = omega (arith, f .small) })
 
 sub-result-2 : tie.Need-sub-result-2
 sub-result-2 c = let f = below (c .before .args .v) (c .before .fits .v) (c .if1 .taken) in rw (f .back) (omega (arith, f .small))

@@ -49,7 +49,9 @@ returns-3 : tie.Need-returns-3 Inv-loop μ-loop
 returns-3 c = never
 
 returns-4 : tie.Need-returns-4 Inv-loop μ-loop
-returns-4 c = λ e. record { number = search needs; offset = search needs; count = eqb-true _ _ e; values = λ j l. c .before .before .before .loop .inv .1 j (omega arith) }
+returns-4 c =
+    let all = c .before .before .before .loop .inv .1 in
+    λ e. record { number = search needs; offset = search needs; count = eqb-true _ _ e; values = λ j l. all j (omega arith) }
 
 pub same-spec : {M : Type 1} → statement M
 same-spec =

@@ -20,7 +20,11 @@ slice-aggregate-result : tie.Need-slice-aggregate-result
 slice-aggregate-result c = omega arith
 
 returns : tie.Need-returns
-returns c = let h : length (drop (c .before .before .args .start) (now (c .before .before .args .bytes))) ≤ length (now (c .before .before .args .bytes)) - (c .before .before .args .start) = simp length-drop (omega arith) in take-all _ _ h
+returns c =
+    let start = c .before .before .args .start in
+    let bytes = now (c .before .before .args .bytes) in
+    let h : length (drop start bytes) ≤ length bytes - start = simp length-drop (omega arith) in
+    take-all _ _ h
 
 returns-2 : tie.Need-returns-2
 returns-2 c = sym (drop-of-length-le (now (c .before .before .args .bytes)) {i = (c .before .before .args .start)} (omega arith))

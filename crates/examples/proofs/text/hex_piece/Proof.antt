@@ -28,7 +28,9 @@ same-length : tie.Need-same-length
 same-length c = omega arith
 
 returns-2 : tie.Need-returns-2
-returns-2 c = record { beyond = omega (arith, c .before .before .before .before .read-decimal .ensures .onward (omega arith)); within = search needs; fits = search needs }
+returns-2 c =
+    let read = c .before .before .before .before .read-decimal .ensures in
+    record { beyond = omega (arith, read .onward (omega arith)); within = search needs; fits = search needs }
 
 same-length-2 : tie.Need-same-length-2
 same-length-2 c = omega arith
