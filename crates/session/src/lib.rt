@@ -3,14 +3,16 @@ ghost use mathlib.Core.Bool.{cond, not, _||_};
 ghost use mathlib.Core.List.{List, []};
 ghost use Prim.Native.Nat.{ℕ};
 ghost use lib.Dec.{eqb};
+ghost use lib.ListN.{getD};
 ghost use Rattle.wire.specs.declared.Cursor.the-variants.{At};
 ghost use Rattle.wire.specs.Fields.{numberField};
 ghost use Rattle.catalog.specs.Lists.{any};
 ghost use Rattle.catalog.specs.Table.{rowsOf, streamsOf, xidIs, keyIs, isFree};
 ghost use Rattle.session.specs.Events.{tuple, oidsAt, eventOf};
-ghost use Rattle.session.specs.Rules.{inBlock, holderAt, orElse, isFound, test, isIdle, ruleBegin, ruleCommit, ruleOrigin, ruleNeutral, ruleRelation, ruleChange, ruleTruncate, ruleStreamStart, ruleStreamStop, ruleStreamEnd, fits, allFit, shaped, allSeen, firstSeen, accepts, placeAfter};
+ghost use Rattle.session.specs.Rules.{inBlock, holderAt, orElse, isFound, test, isIdle, ruleBegin, ruleCommit, ruleOrigin, ruleNeutral, ruleRelation, ruleChange, ruleTruncate, ruleStreamStart, ruleStreamStop, ruleStreamEnd, fits, allFit, shaped, allSeen, firstSeen, accepts, placeAfter, answers};
 ghost use Rattle.session.specs.State.{visibleIn, changedAt, flaggedAt, markedAt, answerFor, stateAt, flagAfter, streamsAfter, rowsAfter};
 ghost use Rattle.session.specs.Machine.{made, placeOf, phaseOf, currentOf, lsnOf, written, stepped, eventStep, stepOf, startOf, named, unnamed};
+ghost use Rattle.session.specs.Listed.{between, messagesIn, lastOr};
 ghost use Rattle.session.specs.Acts.{tuplesOf, eventIn, answered};
 use catalog::Lookup;
 use message::Message;
@@ -1150,4 +1152,47 @@ pub fn give_lent(session: &mut Session, bytes: &[u8], tag: u64) -> Answer
         bytes,
         tag,
     )
+}
+
+// Gives a session the part of `bytes` from `start` to `end`, or no bytes where these are no part of it.
+fn step_part(session: Session, bytes: &[u8], start: usize, end: usize, tag: u64) -> Stepped
+    ensures { λ r. ⌜ r ≡ stepOf session (between start end (now (bytes .entry))) tag ⌝ }
+{
+    if end < start {
+        return step(session, &bytes[0..0], tag);
+    }
+    if bytes.len() < end {
+        return step(session, &bytes[0..0], tag);
+    }
+    step(session, &bytes[start..end], tag)
+}
+
+fn tag_at(tags: &[u64], i: usize) -> u64
+    ensures { λ r. ⌜ r ≡ getD (now (tags .entry)) i 0 ⌝ }
+{
+    if i < tags.len() { tags[i] } else { 0 }
+}
+
+// What a fresh session answers to the last message of a list, each given to it as the one before left it: the messages
+// lie in `bytes` one after another, each ends where `ends` says. With no message the answer is that it is accepted.
+pub fn last_answer(version: u32, bytes: &[u8], ends: &[usize], tags: &[u64]) -> Answer
+    ensures { λ r. ⌜ r ≡ lastOr Answer.Accepted (answers (record { number = version }) [] (messagesIn (now (bytes .entry)) 0 (now (ends .entry)) (now (tags .entry)))) ⌝ }
+{
+    let mut session = start(version);
+    let mut answer = Answer::Accepted;
+    let mut from: usize = 0;
+    let mut i: usize = 0;
+    while i < ends.len() {
+        let end = ends[i];
+        let tag = tag_at(tags, i);
+        let Stepped {
+            session: after,
+            answer: said,
+        } = step_part(session, bytes, from, end, tag);
+        session = after;
+        answer = said;
+        from = end;
+        i += 1;
+    }
+    answer
 }
