@@ -10,3 +10,4 @@ pub mod Shapes
 pub mod Others
 pub mod Oids
 pub mod Stores
+pub mod Listings

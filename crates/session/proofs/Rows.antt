@@ -21,7 +21,7 @@ pub record Agrees (l : List Row) (h : History) : Type 0 where
   pub same : (t o : ℕ) → NonZero o → lookupIn (keyIs t o) l ≡ held h t o
   pub nobody : (t : ℕ) → held h t 0 ≡ Missing
 
-pub found-any : (p : Row → Bool) (l : List Row) → isFound (lookupIn p l) ≡ any p l
+found-any : (p : Row → Bool) (l : List Row) → isFound (lookupIn p l) ≡ any p l
 found-any p [] = refl
 found-any p (a ∷ l) = go (p a) (found-any p l)
   where

@@ -20,28 +20,36 @@ use Rattle.session.specs.declared.Session.{Session}
 use Rattle.session.specs.declared.Stepped.{Stepped}
 use Rattle.session.specs.Events.{Event, eventOf}
 use Rattle.session.specs.Rules.{accepts, inBlock, placeAfter}
-use Rattle.session.specs.State.{State, answerIn, answerFor, flagAfter, streamsAfter, rowsAfter, stateAfter}
+use Rattle.session.specs.State.{answerIn, answerFor, stateAt, flagAfter, streamsAfter, rowsAfter, stateAfter}
 use Rattle.session.specs.Machine.{made, versionIn, placeOf, phaseOf, currentOf, lsnOf, view, written, stepped, eventStep, readStep, stepOf}
 
--- numbers that say a state are the record that is written
-wrote : (s : Session) (n : State) (phase current lsn changed : ℕ) (xids marks owners oids tags identities columns : List ℕ)
-    → phase ≡ phaseOf (n .place) → current ≡ currentOf (n .place) (s .«current_xid») → lsn ≡ lsnOf (n .place) (s .«final_lsn») → changed ≡ cond (n .changed) 1 0
-    → length marks ≡ length xids → streamsOf xids marks ≡ n .streams
-    → Sized owners oids tags identities columns → rowsOf owners oids tags identities columns ≡ n .rows
-    → made (s .version) phase current lsn changed xids marks owners oids tags identities columns ≡ written s n
-wrote s n phase current lsn changed xids marks owners oids tags identities columns e1 e2 e3 e4 k es z er =
-    rw (e1, e2, e3, e4)
-    (rw (
-      ← es,
-      xids-of xids marks,
-      marks-of xids marks k,
-      ← er,
-      owners-of owners oids tags identities columns z,
-      oids-of owners oids tags identities columns z,
-      tags-of owners oids tags identities columns z,
-      identities-of owners oids tags identities columns z,
-      columns-of owners oids tags identities columns z,
-    ))
+-- the numbers that each part of the stores left are the record that is written
+module _ (s : Session) (e : Event) (g : ℕ) (place : Place) (flag : Bool)
+    (phase current lsn changed : ℕ) (xids marks owners oids tags identities columns : List ℕ) (mark : Bool) (next : Place)
+    (es : streamsOf xids marks ≡ streamsAfter e place (streamsOf (s .«stream_xids») (s .«stream_changed»)))
+    (er : rowsOf owners oids tags identities columns ≡ rowsAfter e g place (rowsOf (s .owners) (s .oids) (s .tags) (s .identities) (s .columns)))
+    (em : mark ≡ flagAfter e place flag)
+    (en : next ≡ placeAfter e place)
+    (ec : changed ≡ cond mark 1 0)
+    (ez : (phase ≡ phaseOf next) × (current ≡ currentOf next (s .«current_xid»)) × (lsn ≡ lsnOf next (s .«final_lsn»)))
+    (k : (length xids ≡ 16) × (length marks ≡ 16))
+    (z : Sized owners oids tags identities columns) where
+  pub stored :
+      made (s .version) phase current lsn changed xids marks owners oids tags identities columns
+      ≡ written s (stateAt place flag (streamsOf (s .«stream_xids») (s .«stream_changed»)) (rowsOf (s .owners) (s .oids) (s .tags) (s .identities) (s .columns)) e g)
+  stored =
+      rw (ez .0, ez .1, ez .2, ec, em, en)
+      (rw (
+        ← es,
+        xids-of xids marks,
+        marks-of xids marks (k .1 ∙ sym (k .0)),
+        ← er,
+        owners-of owners oids tags identities columns z,
+        oids-of owners oids tags identities columns z,
+        tags-of owners oids tags identities columns z,
+        identities-of owners oids tags identities columns z,
+        columns-of owners oids tags identities columns z,
+      ))
 
 -- a message that was read, judged
 module _ (s : Session) (e : Event) (g : ℕ) (place : Place) (flag : Bool) (a : Answer)
@@ -57,34 +65,11 @@ module _ (s : Session) (e : Event) (g : ℕ) (place : Place) (flag : Bool) (a : 
   pub refused : accepts a ≡ false → stepped s a ≡ eventStep s e g
   refused w = step-is false w
 
-  module _ (phase current lsn changed : ℕ) (xids marks owners oids tags identities columns : List ℕ) (mark : Bool) (next : Place)
-      (es : streamsOf xids marks ≡ streamsAfter e place (streamsOf (s .«stream_xids») (s .«stream_changed»)))
-      (er : rowsOf owners oids tags identities columns ≡ rowsAfter e g place (rowsOf (s .owners) (s .oids) (s .tags) (s .identities) (s .columns)))
-      (em : mark ≡ flagAfter e place flag)
-      (en : next ≡ placeAfter e place)
-      (ec : changed ≡ cond mark 1 0)
-      (ez : (phase ≡ phaseOf next) × (current ≡ currentOf next (s .«current_xid»)) × (lsn ≡ lsnOf next (s .«final_lsn»)))
-      (k : (length xids ≡ 16) × (length marks ≡ 16))
-      (z : Sized owners oids tags identities columns) where
-    next-is : next ≡ stateAfter (view s) e g .place
-    next-is = rw ep at en
-
-    mark-is : mark ≡ stateAfter (view s) e g .changed
-    mark-is = rw (ep, ef) at em
-
-    streams-are : streamsOf xids marks ≡ stateAfter (view s) e g .streams
-    streams-are = rw ep at es
-
-    rows-are : rowsOf owners oids tags identities columns ≡ stateAfter (view s) e g .rows
-    rows-are = rw ep at er
-
-    pub accepted : accepts a ≡ true → stepped (made (s .version) phase current lsn changed xids marks owners oids tags identities columns) a ≡ eventStep s e g
-    accepted ok =
-        ap (λ (n : Session). stepped n a)
-        (wrote s (stateAfter (view s) e g) phase current lsn changed xids marks owners oids tags identities columns
-        (ez .0 ∙ ap phaseOf next-is) (ez .1 ∙ ap (λ (p : Place). currentOf p (s .«current_xid»)) next-is) (ez .2 ∙ ap (λ (p : Place). lsnOf p (s .«final_lsn»)) next-is)
-        (ec ∙ ap (λ (b : Bool). cond b 1 0) mark-is) (k .1 ∙ sym (k .0)) streams-are z rows-are)
-        ∙ step-is true ok
+  pub accepted :
+      accepts a ≡ true → (n : Session)
+      → n ≡ written s (stateAt place flag (streamsOf (s .«stream_xids») (s .«stream_changed»)) (rowsOf (s .owners) (s .oids) (s .tags) (s .identities) (s .columns)) e g)
+      → stepped n a ≡ eventStep s e g
+  accepted w n q = ap (λ (x : Session). stepped x a) (rw (ep, ef) at q) ∙ step-is true w
 
 -- bytes, read
 module _ (s : Session) (xs : List ℕ) (g : ℕ) (place : Place) (b : Bool) (r : Read)

@@ -3,3 +3,4 @@ pub mod Rules
 pub mod State
 pub mod Machine
 pub mod Acts
+pub mod Listed

@@ -105,10 +105,14 @@ rowsAfter StreamStop g p r = r
 rowsAfter (StreamCommit x) g p r = change (released x r) r
 rowsAfter (StreamAbort x sub) g p r = cond (eqb x sub) (change (dropped x) r) r
 
-abbrev pub stateAfter : State → Event → ℕ → State
-stateAfter s e g = record {
-  place = placeAfter e (s .place);
-  changed = flagAfter e (s .place) (s .changed);
-  streams = streamsAfter e (s .place) (s .streams);
-  rows = rowsAfter e g (s .place) (s .rows);
+-- from a place, a flag, streams and rows
+abbrev pub stateAt : Place → Bool → List Stream → List Row → Event → ℕ → State
+stateAt p b s r e g = record {
+  place = placeAfter e p;
+  changed = flagAfter e p b;
+  streams = streamsAfter e p s;
+  rows = rowsAfter e g p r;
 }
+
+abbrev pub stateAfter : State → Event → ℕ → State
+stateAfter s e g = stateAt (s .place) (s .changed) (s .streams) (s .rows) e g

@@ -1,14 +1,18 @@
 ghost use mathlib.Core.Path.{_≡_};
 ghost use mathlib.Core.Bool.{cond, not, _||_};
-ghost use mathlib.Core.List.{[]};
+ghost use mathlib.Core.List.{List, []};
+ghost use Prim.Native.Nat.{ℕ};
 ghost use lib.Dec.{eqb};
+ghost use lib.ListN.{getD};
 ghost use Rattle.wire.specs.declared.Cursor.the-variants.{At};
 ghost use Rattle.wire.specs.Fields.{numberField};
-ghost use Rattle.catalog.specs.Table.{rowsOf, streamsOf};
+ghost use Rattle.catalog.specs.Lists.{any};
+ghost use Rattle.catalog.specs.Table.{rowsOf, streamsOf, xidIs, keyIs, isFree};
 ghost use Rattle.session.specs.Events.{tuple, oidsAt, eventOf};
-ghost use Rattle.session.specs.Rules.{inBlock, holderAt, orElse, isFound, test, isIdle, ruleBegin, ruleCommit, ruleOrigin, ruleNeutral, ruleStreamStart, ruleStreamStop, ruleStreamEnd, fits, allFit, shaped, allSeen, firstSeen, accepts, placeAfter};
-ghost use Rattle.session.specs.State.{visibleIn, changedAt, flaggedAt, markedAt, answerFor, flagAfter, streamsAfter, rowsAfter};
-ghost use Rattle.session.specs.Machine.{made, placeOf, phaseOf, currentOf, lsnOf, stepped, eventStep, stepOf, startOf, named, unnamed};
+ghost use Rattle.session.specs.Rules.{inBlock, holderAt, orElse, isFound, test, isIdle, ruleBegin, ruleCommit, ruleOrigin, ruleNeutral, ruleRelation, ruleChange, ruleTruncate, ruleStreamStart, ruleStreamStop, ruleStreamEnd, fits, allFit, shaped, allSeen, firstSeen, accepts, placeAfter, answers};
+ghost use Rattle.session.specs.State.{visibleIn, changedAt, flaggedAt, markedAt, answerFor, stateAt, flagAfter, streamsAfter, rowsAfter};
+ghost use Rattle.session.specs.Machine.{made, placeOf, phaseOf, currentOf, lsnOf, written, stepped, eventStep, stepOf, startOf, named, unnamed};
+ghost use Rattle.session.specs.Listed.{between, messagesIn, lastOr};
 ghost use Rattle.session.specs.Acts.{tuplesOf, eventIn, answered};
 use catalog::Lookup;
 use message::Message;
@@ -89,7 +93,7 @@ pub struct Stepped {
 }
 
 // What the session looks at in a message. A Change's old tuple has the letter 0 where there is none.
-pub enum Act {
+enum Act {
     Begin {
         lsn: u64,
         xid: u32,
@@ -133,7 +137,7 @@ pub enum Act {
 fn count_at(bytes: &[u8], start: usize) -> u16
     ensures { λ r. ⌜ r ≡ numberField 2 0 1600 6 (now (bytes .entry)) (At start) .value ⌝ }
 {
-    let Field16 { value, next: _ } = wire::number16(
+    let Field16 { value, .. } = wire::number16(
         bytes,
         Cursor::At(start),
         0,
@@ -159,10 +163,10 @@ fn update(x: Update, bytes: &[u8]) -> Act
     ensures { λ r. ⌜ eventIn r (now (bytes .entry)) ≡ eventOf (Message.Update x) (now (bytes .entry)) ⌝ }
 {
     let Update {
-        xid: _,
         relation,
         old,
         tuple,
+        ..
     } = x;
     let count = count_at(bytes, tuple);
     match old {
@@ -270,15 +274,8 @@ fn accepted(a: Answer) -> bool
 {
     match a {
         Answer::Accepted => true,
-        Answer::Change {
-            tag: _,
-            identity: _,
-            columns: _,
-        } => true,
-        Answer::Refused {
-            number: _,
-            offset: _,
-        } => false,
+        Answer::Change { .. } => true,
+        Answer::Refused { .. } => false,
     }
 }
 
@@ -478,11 +475,7 @@ fn is_found(a: Lookup) -> bool
 {
     match a {
         Lookup::Missing => false,
-        Lookup::Found {
-            tag: _,
-            identity: _,
-            columns: _,
-        } => true,
+        Lookup::Found { .. } => true,
     }
 }
 
@@ -491,11 +484,7 @@ fn or_else(a: Lookup, b: Lookup) -> Lookup
 {
     match a {
         Lookup::Missing => b,
-        Lookup::Found {
-            tag: _,
-            identity: _,
-            columns: _,
-        } => a,
+        Lookup::Found { .. } => a,
     }
 }
 
@@ -513,9 +502,9 @@ fn place_after(a: Act, place: Place, bytes: &[u8]) -> Place
     ensures { λ r. ⌜ r ≡ placeAfter (eventIn a (now (bytes .entry))) place ⌝ }
 {
     match a {
-        Act::Begin { lsn, xid: _ } => Place::Transaction(lsn),
-        Act::Commit { lsn: _ } => Place::Idle,
-        Act::StreamStart { xid, first: _ } => Place::Block(xid),
+        Act::Begin { lsn, .. } => Place::Transaction(lsn),
+        Act::Commit { .. } => Place::Idle,
+        Act::StreamStart { xid, .. } => Place::Block(xid),
         Act::StreamStop => Place::Idle,
         _ => place,
     }
@@ -525,15 +514,9 @@ fn flag_after(a: Act, place: Place, b: bool, bytes: &[u8]) -> bool
     ensures { λ r. ⌜ r ≡ flagAfter (eventIn a (now (bytes .entry))) place b ⌝ }
 {
     match a {
-        Act::Begin { lsn: _, xid: _ } => false,
-        Act::Change {
-            oid: _,
-            old: _,
-            old_count: _,
-            letter: _,
-            count: _,
-        } => flagged_at(place, b),
-        Act::Truncate { start: _, count: _ } => flagged_at(place, b),
+        Act::Begin { .. } => false,
+        Act::Change { .. } => flagged_at(place, b),
+        Act::Truncate { .. } => flagged_at(place, b),
         _ => b,
     }
 }
@@ -615,13 +598,7 @@ fn first_visible(
     if count == 0 {
         return Lookup::Missing;
     }
-    let Field32 { value, next: _ } = wire::number32(
-        bytes,
-        Cursor::At(start),
-        1,
-        MAX32,
-        Refusal::FIELD,
-    );
+    let Field32 { value, .. } = wire::number32(bytes, Cursor::At(start), 1, MAX32, Refusal::FIELD);
     visible(place, owners, oids, tags, identities, columns, value)
 }
 
@@ -641,6 +618,106 @@ fn changed_at(
     }
 }
 
+// The judgement of each kind, by what the tables show.
+fn judge_begin(place: Place, stream_xids: &[u32; 16], xid: u32) -> Answer
+    ensures { λ r. ⌜ ((m : List ℕ) → r ≡ ruleBegin place (any (xidIs xid) (streamsOf (now («stream_xids» .entry)) m))) ⌝ }
+{
+    let open = catalog::has_stream(stream_xids, xid);
+    answer_of(rule_begin(place, open))
+}
+
+fn judge_origin(
+    place: Place,
+    changed: bool,
+    stream_xids: &[u32; 16],
+    stream_changed: &[u8; 16],
+) -> Answer
+    ensures { λ r. ⌜ r ≡ ruleOrigin place (changedAt place changed (streamsOf (now («stream_xids» .entry)) (now («stream_changed» .entry)))) ⌝ }
+{
+    let late = changed_at(place, changed, stream_xids, stream_changed);
+    answer_of(rule_origin(place, late))
+}
+
+fn judge_relation(place: Place, owners: &[u32; 256], oids: &[u32; 256], oid: u32) -> Answer
+    ensures { λ r. ⌜ ((g i k : List ℕ) → r ≡ ruleRelation place (any (keyIs (holderAt place) oid) (rowsOf (now (owners .entry)) (now (oids .entry)) g i k)) (not (any isFree (rowsOf (now (owners .entry)) (now (oids .entry)) g i k)))) ⌝ }
+{
+    let live = catalog::has_key(owners, oids, holder_at(place), oid);
+    let room = catalog::has_free(owners, oids);
+    within(place, answer_of(rule_room(live, !room)))
+}
+
+fn judge_change(
+    place: Place,
+    owners: &[u32; 256],
+    oids: &[u32; 256],
+    tags: &[u64; 256],
+    identities: &[u8; 256],
+    columns: &[u16; 256],
+    oid: u32,
+    old: u8,
+    old_count: u16,
+    letter: u8,
+    count: u16,
+) -> Answer
+    ensures { λ r. ⌜ r ≡ ruleChange place (visibleIn place (rowsOf (now (owners .entry)) (now (oids .entry)) (now (tags .entry)) (now (identities .entry)) (now (columns .entry))) oid) (tuplesOf old «old_count» letter count) ⌝ }
+{
+    let seen = visible(place, owners, oids, tags, identities, columns, oid);
+    within(place, rule_shape(seen, old, old_count, letter, count))
+}
+
+fn judge_truncate(
+    place: Place,
+    owners: &[u32; 256],
+    oids: &[u32; 256],
+    tags: &[u64; 256],
+    identities: &[u8; 256],
+    columns: &[u16; 256],
+    bytes: &[u8],
+    start: usize,
+    count: u32,
+) -> Answer
+    ensures { λ r. ⌜ r ≡ ruleTruncate place (visibleIn place (rowsOf (now (owners .entry)) (now (oids .entry)) (now (tags .entry)) (now (identities .entry)) (now (columns .entry)))) (oidsAt count (now (bytes .entry)) (At start)) ⌝ }
+{
+    let all = all_visible(
+        place,
+        owners,
+        oids,
+        tags,
+        identities,
+        columns,
+        bytes,
+        start,
+        count,
+    );
+    let first = first_visible(
+        place,
+        owners,
+        oids,
+        tags,
+        identities,
+        columns,
+        bytes,
+        start,
+        count,
+    );
+    within(place, rule_relations(all, first))
+}
+
+fn judge_stream_start(place: Place, stream_xids: &[u32; 16], xid: u32, first: bool) -> Answer
+    ensures { λ r. ⌜ ((m : List ℕ) → r ≡ ruleStreamStart place first (any (xidIs xid) (streamsOf (now («stream_xids» .entry)) m)) (not (any (xidIs 0) (streamsOf (now («stream_xids» .entry)) m)))) ⌝ }
+{
+    let open = catalog::has_stream(stream_xids, xid);
+    let room = catalog::has_stream(stream_xids, 0);
+    answer_of(rule_stream_start(place, first, open, !room))
+}
+
+fn judge_stream_end(place: Place, stream_xids: &[u32; 16], xid: u32) -> Answer
+    ensures { λ r. ⌜ ((m : List ℕ) → r ≡ ruleStreamEnd place (any (xidIs xid) (streamsOf (now («stream_xids» .entry)) m))) ⌝ }
+{
+    let open = catalog::has_stream(stream_xids, xid);
+    answer_of(rule_stream_end(place, open))
+}
+
 // The judgement of a message: nothing is stored.
 fn judge(
     place: Place,
@@ -658,74 +735,45 @@ fn judge(
     ensures { λ r. ⌜ r ≡ answerFor place changed (streamsOf (now («stream_xids» .entry)) (now («stream_changed» .entry))) (rowsOf (now (owners .entry)) (now (oids .entry)) (now (tags .entry)) (now (identities .entry)) (now (columns .entry))) (eventIn a (now (bytes .entry))) ⌝ }
 {
     match a {
-        Act::Begin { lsn: _, xid } => {
-            let open = catalog::has_stream(stream_xids, xid);
-            answer_of(rule_begin(place, open))
-        }
+        Act::Begin { xid, .. } => judge_begin(place, stream_xids, xid),
         Act::Commit { lsn } => answer_of(rule_commit(place, lsn)),
-        Act::Origin => {
-            let late = changed_at(place, changed, stream_xids, stream_changed);
-            answer_of(rule_origin(place, late))
-        }
-        Act::Relation {
-            oid,
-            identity: _,
-            columns: _,
-        } => {
-            let live = catalog::has_key(owners, oids, holder_at(place), oid);
-            let room = catalog::has_free(owners, oids);
-            within(place, answer_of(rule_room(live, !room)))
-        }
+        Act::Origin => judge_origin(place, changed, stream_xids, stream_changed),
+        Act::Relation { oid, .. } => judge_relation(place, owners, oids, oid),
         Act::Change {
             oid,
             old,
             old_count,
             letter,
             count,
-        } => {
-            let seen = visible(place, owners, oids, tags, identities, columns, oid);
-            within(place, rule_shape(seen, old, old_count, letter, count))
-        }
-        Act::Truncate { start, count } => {
-            let all = all_visible(
-                place,
-                owners,
-                oids,
-                tags,
-                identities,
-                columns,
-                bytes,
-                start,
-                count,
-            );
-            let first = first_visible(
-                place,
-                owners,
-                oids,
-                tags,
-                identities,
-                columns,
-                bytes,
-                start,
-                count,
-            );
-            within(place, rule_relations(all, first))
-        }
+        } => judge_change(
+            place,
+            owners,
+            oids,
+            tags,
+            identities,
+            columns,
+            oid,
+            old,
+            old_count,
+            letter,
+            count,
+        ),
+        Act::Truncate { start, count } => judge_truncate(
+            place,
+            owners,
+            oids,
+            tags,
+            identities,
+            columns,
+            bytes,
+            start,
+            count,
+        ),
         Act::Neutral => answer_of(rule_neutral(place)),
-        Act::StreamStart { xid, first } => {
-            let open = catalog::has_stream(stream_xids, xid);
-            let room = catalog::has_stream(stream_xids, 0);
-            answer_of(rule_stream_start(place, first, open, !room))
-        }
+        Act::StreamStart { xid, first } => judge_stream_start(place, stream_xids, xid, first),
         Act::StreamStop => answer_of(rule_stream_stop(place)),
-        Act::StreamCommit { xid } => {
-            let open = catalog::has_stream(stream_xids, xid);
-            answer_of(rule_stream_end(place, open))
-        }
-        Act::StreamAbort { xid, sub: _ } => {
-            let open = catalog::has_stream(stream_xids, xid);
-            answer_of(rule_stream_end(place, open))
-        }
+        Act::StreamCommit { xid } => judge_stream_end(place, stream_xids, xid),
+        Act::StreamAbort { xid, .. } => judge_stream_end(place, stream_xids, xid),
     }
 }
 
@@ -750,14 +798,8 @@ fn apply_streams<'a>(
     ensures { λ _. ⌜ (streamsOf (now («stream_xids» .exit)) (now («stream_changed» .exit))) ≡ streamsAfter (eventIn a (now (bytes .entry))) place (streamsOf (now («stream_xids» .entry)) (now («stream_changed» .entry))) ⌝ }
 {
     match a {
-        Act::Change {
-            oid: _,
-            old: _,
-            old_count: _,
-            letter: _,
-            count: _,
-        } => mark_at(place, stream_xids, stream_changed),
-        Act::Truncate { start: _, count: _ } => mark_at(place, stream_xids, stream_changed),
+        Act::Change { .. } => mark_at(place, stream_xids, stream_changed),
+        Act::Truncate { .. } => mark_at(place, stream_xids, stream_changed),
         Act::StreamStart { xid, first } => {
             if first {
                 catalog::replace_stream(stream_xids, stream_changed, 0, xid);
@@ -840,6 +882,47 @@ fn apply_place<'a>(
     }
 }
 
+// What an accepted message makes of every field, from where the session stood: nothing is judged.
+fn apply<'a>(
+    phase: &'a mut u8,
+    current_xid: &'a mut u32,
+    final_lsn: &'a mut u64,
+    changed: &'a mut u8,
+    stream_xids: &'a mut [u32; 16],
+    stream_changed: &'a mut [u8; 16],
+    owners: &'a mut [u32; 256],
+    oids: &'a mut [u32; 256],
+    tags: &'a mut [u64; 256],
+    identities: &'a mut [u8; 256],
+    columns: &'a mut [u16; 256],
+    a: Act,
+    place: Place,
+    flagged: bool,
+    bytes: &[u8],
+    tag: u64,
+)
+    ensures { λ _. ⌜ ((v : ℕ) → (made v (now (phase .exit)) (now («current_xid» .exit)) (now («final_lsn» .exit)) (now (changed .exit)) (now («stream_xids» .exit)) (now («stream_changed» .exit)) (now (owners .exit)) (now (oids .exit)) (now (tags .exit)) (now (identities .exit)) (now (columns .exit))) ≡ written (made v (now (phase .entry)) (now («current_xid» .entry)) (now («final_lsn» .entry)) (now (changed .entry)) (now («stream_xids» .entry)) (now («stream_changed» .entry)) (now (owners .entry)) (now (oids .entry)) (now (tags .entry)) (now (identities .entry)) (now (columns .entry))) (stateAt place flagged (streamsOf (now («stream_xids» .entry)) (now («stream_changed» .entry))) (rowsOf (now (owners .entry)) (now (oids .entry)) (now (tags .entry)) (now (identities .entry)) (now (columns .entry))) (eventIn a (now (bytes .entry))) tag)) ⌝ }
+{
+    apply_streams(stream_xids, stream_changed, a, place, bytes);
+    apply_rows(
+        owners,
+        oids,
+        tags,
+        identities,
+        columns,
+        a,
+        tag,
+        place,
+        bytes,
+    );
+    let mark = flag_after(a, place, flagged, bytes);
+    let next = place_after(a, place, bytes);
+    *changed = bit(mark);
+    apply_place(phase, current_xid, final_lsn, next);
+    catalog::sized_streams(stream_xids, stream_changed);
+    catalog::sized(owners, oids, tags, identities, columns);
+}
+
 // Gives the session what it looks at in a message: a judgement and, where that accepts, the stores.
 fn act_fields<'a>(
     version: u32,
@@ -880,24 +963,24 @@ fn act_fields<'a>(
         bytes,
     );
     if accepted(answer) {
-        apply_streams(stream_xids, stream_changed, a, place, bytes);
-        apply_rows(
+        apply(
+            phase,
+            current_xid,
+            final_lsn,
+            changed,
+            stream_xids,
+            stream_changed,
             owners,
             oids,
             tags,
             identities,
             columns,
             a,
-            tag,
             place,
+            flagged,
             bytes,
+            tag,
         );
-        let mark = flag_after(a, place, flagged, bytes);
-        let next = place_after(a, place, bytes);
-        *changed = bit(mark);
-        apply_place(phase, current_xid, final_lsn, next);
-        catalog::sized_streams(stream_xids, stream_changed);
-        catalog::sized(owners, oids, tags, identities, columns);
     }
     answer
 }
@@ -1069,4 +1152,47 @@ pub fn give_lent(session: &mut Session, bytes: &[u8], tag: u64) -> Answer
         bytes,
         tag,
     )
+}
+
+// Gives a session the part of `bytes` from `start` to `end`, or no bytes where these are no part of it.
+fn step_part(session: Session, bytes: &[u8], start: usize, end: usize, tag: u64) -> Stepped
+    ensures { λ r. ⌜ r ≡ stepOf session (between start end (now (bytes .entry))) tag ⌝ }
+{
+    if end < start {
+        return step(session, &bytes[0..0], tag);
+    }
+    if bytes.len() < end {
+        return step(session, &bytes[0..0], tag);
+    }
+    step(session, &bytes[start..end], tag)
+}
+
+fn tag_at(tags: &[u64], i: usize) -> u64
+    ensures { λ r. ⌜ r ≡ getD (now (tags .entry)) i 0 ⌝ }
+{
+    if i < tags.len() { tags[i] } else { 0 }
+}
+
+// What a fresh session answers to the last message of a list, each given to it as the one before left it: the messages
+// lie in `bytes` one after another, each ends where `ends` says. With no message the answer is that it is accepted.
+pub fn last_answer(version: u32, bytes: &[u8], ends: &[usize], tags: &[u64]) -> Answer
+    ensures { λ r. ⌜ r ≡ lastOr Answer.Accepted (answers (record { number = version }) [] (messagesIn (now (bytes .entry)) 0 (now (ends .entry)) (now (tags .entry)))) ⌝ }
+{
+    let mut session = start(version);
+    let mut answer = Answer::Accepted;
+    let mut from: usize = 0;
+    let mut i: usize = 0;
+    while i < ends.len() {
+        let end = ends[i];
+        let tag = tag_at(tags, i);
+        let Stepped {
+            session: after,
+            answer: said,
+        } = step_part(session, bytes, from, end, tag);
+        session = after;
+        answer = said;
+        from = end;
+        i += 1;
+    }
+    answer
 }

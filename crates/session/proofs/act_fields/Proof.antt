@@ -17,35 +17,12 @@ judge-requires c κs = tt
 accepted-requires : tie.Need-accepted-requires
 accepted-requires c κs = tt
 
-apply-streams-requires : tie.Need-apply-streams-requires
-apply-streams-requires c κs = tt
-
-apply-rows-requires : tie.Need-apply-rows-requires
-apply-rows-requires c κs = tt
-
-flag-after-requires : tie.Need-flag-after-requires
-flag-after-requires c κs = tt
-
-place-after-requires : tie.Need-place-after-requires
-place-after-requires c κs = tt
-
-bit-requires : tie.Need-bit-requires
-bit-requires c κs = tt
-
-apply-place-requires : tie.Need-apply-place-requires
-apply-place-requires c κs = tt
-
-sized-streams-requires : tie.Need-sized-streams-requires
-sized-streams-requires c κs = tt
-
-sized-requires : tie.Need-sized-requires
-sized-requires c κs = tt
+apply-requires : tie.Need-apply-requires
+apply-requires c κs = tt
 
 returns : tie.Need-returns
-returns c = let a = c .before .before .before .before .before .before .before .before .before .before .before .before .before .before .before .before .before .before .before .before .before .before .before .before .before .before .before .before .before .before .before .before .before .before .before .before .before .before .before .before .before .before .args in
-    accepted (made (a .version) (a .phase .now) (a .current-xid .now) (a .final-lsn .now) (a .changed .now) (a .stream-xids .now) (a .stream-changed .now) (a .owners .now) (a .oids .now) (a .tags .now) (a .identities .now) (a .columns .now)) (eventIn (a .a) (a .bytes .now)) (a .tag) _ _ _ (c .before .before .before .before .before .before .before .before .before .before .before .before .before .before .before .before .before .before .before .before .before .before .before .before .before .before .before .before .before .before .before .before .before .before .before .before .place-of .ensures) (c .before .before .before .before .before .before .before .before .before .before .before .before .before .before .before .before .before .before .before .before .before .before .before .before .before .before .before .before .before .before .before .before .before .before .before .flag .ensures) (c .before .before .before .before .before .before .before .before .before .before .before .before .before .before .before .before .before .before .before .before .before .before .before .before .before .before .before .judge .ensures)
-    _ _ _ _ _ _ _ _ _ _ _ _ _ (c .before .before .before .before .before .before .before .before .before .before .before .before .before .before .before .before .before .before .before .before .before .before .apply-streams .ensures) (c .before .before .before .before .before .before .before .before .before .before .before .before .before .before .before .before .apply-rows .ensures) (c .before .before .before .before .before .before .before .before .before .before .before .before .before .before .before .flag-after .ensures) (c .before .before .before .before .before .before .before .before .before .before .before .before .before .before .place-after .ensures) (c .before .before .before .before .before .before .before .before .before .before .before .before .before .bit .ensures) (c .before .before .before .before .before .before .before .before .before .apply-place .ensures) (c .before .before .before .before .before .before .sized-streams .ensures) (c .sized .ensures)
-    (sym (c .before .before .before .before .before .before .before .before .before .before .before .before .before .before .before .before .before .before .before .before .before .before .before .before .before .before .accepted .ensures) ∙ c .before .before .before .before .before .before .before .before .before .before .before .before .before .before .before .before .before .before .before .before .before .before .before .before .before .if1 .taken)
+returns c = let a = c .before .before .before .before .before .before .before .before .before .before .before .before .before .before .before .before .before .before .before .before .before .before .before .before .before .before .before .before .before .args in
+    accepted (made (a .version) (a .phase .now) (a .current-xid .now) (a .final-lsn .now) (a .changed .now) (a .stream-xids .now) (a .stream-changed .now) (a .owners .now) (a .oids .now) (a .tags .now) (a .identities .now) (a .columns .now)) (eventIn (a .a) (a .bytes .now)) (a .tag) _ _ _ (c .before .before .before .before .before .before .before .before .before .before .before .before .before .before .before .before .before .before .before .before .before .before .before .place-of .ensures) (c .before .before .before .before .before .before .before .before .before .before .before .before .before .before .before .before .before .before .before .before .before .before .flag .ensures) (c .before .before .before .before .before .before .before .before .before .before .before .before .before .before .judge .ensures) (sym (c .before .before .before .before .before .before .before .before .before .before .before .before .before .accepted .ensures) ∙ c .before .before .before .before .before .before .before .before .before .before .before .before .if1 .taken) _ (c .apply .ensures (a .version))
 
 returns-2 : tie.Need-returns-2
 returns-2 c = let a = c .before .before .before .before .before .before .before .before .before .before .before .before .before .before .before .before .before .args in
@@ -59,13 +36,6 @@ act-fields-spec =
     flag-requires
     judge-requires
     accepted-requires
-    apply-streams-requires
-    apply-rows-requires
-    flag-after-requires
-    place-after-requires
-    bit-requires
-    apply-place-requires
-    sized-streams-requires
-    sized-requires
+    apply-requires
     returns
     returns-2)
