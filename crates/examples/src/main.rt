@@ -1,6 +1,7 @@
 // Gives the cases of its standard input to the reader and to the second reader, and says for each group how many ran and
 // on how many both gave the same answer and the one that stands there. Cases that are marked for it are then varied: at
-// every version and place, cut short, made longer, and with one byte changed.
+// every version and place, cut short, made longer, and with one byte changed. What a message has is stepped through to its
+// end, and from every offset.
 ghost use Prim.Native.Nat.{_≤_};
 ghost use lib.ListN.{length};
 use libc::STDIN_FILENO;
@@ -10,6 +11,7 @@ use second_reader::Seen;
 use text::Decimal;
 
 mod flat;
+mod steps;
 mod text;
 
 const AS_WRITTEN: u8 = 0;
@@ -22,8 +24,14 @@ const LONGER: u8 = 3;
 
 const CHANGED: u8 = 4;
 
+const STEPS: u8 = 5;
+
+const POSITIONS: u8 = 6;
+
 // The bytes that are put in: numbers at the edges, and every letter that a layout has.
 const BYTES: [u8; 35] = *b"\x00\x01\x02\x03\x04\x06\x07\x08\x40\x7F\x80\xFFABCDEIKMNORSTUYbcdfintu";
+
+const LAST: usize = 0xFFFF_FFFF_FFFF_FFFF;
 
 const VERSIONS: [u32; 5] = [0, 1, 2, 3, 0xFFFF_FFFF];
 
@@ -79,7 +87,7 @@ fn print_answer(seen: Seen) {
     }
 }
 
-fn print_difference(version: u32, in_block: bool, bytes: &[u8], first: Seen, second: Seen) {
+fn print_message(version: u32, in_block: bool, bytes: &[u8]) {
     print(b"  ");
     print_number(version as u64);
     if in_block {
@@ -88,6 +96,10 @@ fn print_difference(version: u32, in_block: bool, bytes: &[u8], first: Seen, sec
         print(b" - ");
     }
     print_bytes(bytes);
+}
+
+fn print_difference(version: u32, in_block: bool, bytes: &[u8], first: Seen, second: Seen) {
+    print_message(version, in_block, bytes);
     print(b" reader ");
     print_answer(first);
     print(b" second ");
@@ -146,7 +158,7 @@ fn is_answer(answer: &[u8], seen: Seen) -> bool {
 }
 
 // Gives bytes to both readers.
-fn run(tally: Tally, version: u32, in_block: bool, bytes: &[u8], answer: &[u8]) -> Tally {
+fn is_read(version: u32, in_block: bool, bytes: &[u8], answer: &[u8]) -> bool {
     let first = flat::seen(
         reader::read_message(Version { number: version }, in_block, bytes),
         bytes,
@@ -156,11 +168,23 @@ fn run(tally: Tally, version: u32, in_block: bool, bytes: &[u8], answer: &[u8]) 
     if !is_agreed {
         print_difference(version, in_block, bytes, first, second);
     }
-    tally.with(is_agreed)
+    is_agreed
+}
+
+// Steps through what the bytes have, or to their refusal.
+fn is_stepped(version: u32, in_block: bool, bytes: &[u8]) -> bool {
+    let second = second_reader::read(version, in_block, bytes);
+    let is_agreed = steps::agrees(version, in_block, bytes, second);
+    if !is_agreed {
+        print_message(version, in_block, bytes);
+        print(b" steps\n");
+    }
+    is_agreed
 }
 
 fn run_with_any_answer(tally: Tally, version: u32, in_block: bool, bytes: &[u8]) -> Tally {
-    run(tally, version, in_block, bytes, b"")
+    let is_agreed = is_read(version, in_block, bytes, b"");
+    tally.with(is_agreed && is_stepped(version, in_block, bytes))
 }
 
 fn run_at_known_versions(tally: Tally, bytes: &[u8]) -> Tally {
@@ -237,6 +261,36 @@ fn run_varied(tally: Tally, pass: u8, message: &mut [u8], size: usize) -> Tally 
     }
 }
 
+fn is_stepped_from(version: u32, in_block: bool, bytes: &[u8], at: usize) -> bool {
+    let is_agreed = steps::agrees_at(bytes, at);
+    if !is_agreed {
+        print_message(version, in_block, bytes);
+        print(b" steps from ");
+        print_number(at as u64);
+        print(b"\n");
+    }
+    is_agreed
+}
+
+// Steps from each offset of the message, from those past it, and from the last that there is.
+fn run_positions(tally: Tally, version: u32, in_block: bool, bytes: &[u8]) -> Tally {
+    let mut sum = tally.with(is_stepped_from(version, in_block, bytes, LAST));
+    let end = std::num::wrapping_add_usize(bytes.len(), 2);
+    let mut at: usize = 0;
+    while at < end {
+        sum = sum.with(is_stepped_from(version, in_block, bytes, at));
+        at += 1;
+    }
+    sum
+}
+
+fn run_more(tally: Tally, pass: u8, version: u32, in_block: bool, bytes: &[u8]) -> Tally {
+    match pass {
+        STEPS => tally.with(is_stepped(version, in_block, bytes)),
+        _ => run_positions(tally, version, in_block, bytes),
+    }
+}
+
 // Whether a line with this first byte is a group's name, a note or empty.
 fn is_no_case(first: u8) -> bool {
     match first {
@@ -258,12 +312,20 @@ fn run_line(tally: Tally, pass: u8, line: &[u8], message: &mut [u8]) -> Tally {
         return tally.with(false);
     }
     if pass == AS_WRITTEN {
-        return run(
-            tally,
+        return tally.with(is_read(
             case.version,
             case.in_block,
             text::front(message, case.size),
             text::back(line, case.answer),
+        ));
+    }
+    if CHANGED < pass {
+        return run_more(
+            tally,
+            pass,
+            case.version,
+            case.in_block,
+            text::front(message, case.size),
         );
     }
     if is_varied {
@@ -304,13 +366,15 @@ fn print_pass(pass: u8) {
         EVERY_VERSION => print(b"varied, every version and place"),
         CUT_SHORT => print(b"varied, cut short"),
         LONGER => print(b"varied, a byte longer"),
-        _ => print(b"varied, a byte changed"),
+        CHANGED => print(b"varied, a byte changed"),
+        STEPS => print(b"steps"),
+        _ => print(b"steps from every offset"),
     }
 }
 
 fn run_passes(cases: &[u8], message: &mut [u8]) {
     let mut pass = EVERY_VERSION;
-    while pass <= CHANGED {
+    while pass <= POSITIONS {
         let tally = run_lines(pass, cases, message);
         print_pass(pass);
         print_tally(tally);

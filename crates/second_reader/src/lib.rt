@@ -9,7 +9,7 @@
 //   s  a text                                    v  a length and its bytes
 //   N  `N` and a tuple                           K  `K` or `O` and a tuple
 //   U  the same as K, or nothing                 C  columns of a Relation
-//   R  OIDs of a Truncate
+//   R  OIDs of a Truncate                        t  a column of a tuple, in what `read_at` is asked for
 
 ghost use mathlib.Core.Path.{_≡_};
 ghost use mathlib.Core.Bool.{true};
@@ -44,11 +44,11 @@ const MOST_RELATIONS: u64 = 256;
 const ROOM: usize = 16;
 
 // A refusal's number and offset, or 0, where the next field starts, and what was found: a number, a letter, or how many
-// bytes or columns.
-struct Step {
-    number: u8,
-    at: usize,
-    value: u64,
+// bytes or columns. Of several fields it is their sum.
+pub struct Step {
+    pub number: u8,
+    pub at: usize,
+    pub value: u64,
 }
 
 // A refusal's number and offset, or 0 and the end of the tuple, its columns and the bytes of its values.
@@ -221,18 +221,6 @@ fn sized(s: &[u8], at: usize) -> Step
     }
 }
 
-// A field that is not part of a tuple.
-fn plain(s: &[u8], at: usize, code: u8) -> Step
-    requires { ⌜ at ≤ length (now s) ⌝ }
-    ensures { λ r. ⌜ Stepped at (length (now (s .entry))) r ⌝ }
-{
-    match code {
-        b's' => text(s, at),
-        b'v' => sized(s, at),
-        _ => number(s, at, code),
-    }
-}
-
 // A column of a tuple.
 fn column(s: &[u8], at: usize) -> Step
     requires { ⌜ at ≤ length (now s) ⌝ }
@@ -250,6 +238,19 @@ fn column(s: &[u8], at: usize) -> Step
         },
         b't' | b'b' => sized(s, at + 1),
         _ => ended(FIELD, at),
+    }
+}
+
+// A field that is no tuple.
+fn plain(s: &[u8], at: usize, code: u8) -> Step
+    requires { ⌜ at ≤ length (now s) ⌝ }
+    ensures { λ r. ⌜ Stepped at (length (now (s .entry))) r ⌝ }
+{
+    match code {
+        b's' => text(s, at),
+        b'v' => sized(s, at),
+        b't' => column(s, at),
+        _ => number(s, at, code),
     }
 }
 
@@ -300,12 +301,13 @@ pub fn read_tuple(s: &[u8], start: usize) -> Tuple
     }
 }
 
-// Fields whose values are not kept.
+// Fields whose values are not kept, only summed.
 fn passed(s: &[u8], from: usize, codes: &[u8]) -> Step
     requires { ⌜ from ≤ length (now s) ⌝ }
     ensures { λ r. ⌜ Stepped from (length (now (s .entry))) r ⌝ }
 {
     let mut at = from;
+    let mut value: u64 = 0;
     let mut k = 0;
     while k < codes.len() {
         let step = plain(s, at, codes[k]);
@@ -313,9 +315,14 @@ fn passed(s: &[u8], from: usize, codes: &[u8]) -> Step
             return step;
         }
         at = step.at;
+        value = std::num::wrapping_add_u64(value, step.value);
         k += 1;
     }
-    ended(0, at)
+    Step {
+        number: 0,
+        at,
+        value,
+    }
 }
 
 // Such fields, several times over.
@@ -324,6 +331,7 @@ fn repeated(s: &[u8], from: usize, codes: &[u8], times: u64) -> Step
     ensures { λ r. ⌜ Stepped from (length (now (s .entry))) r ⌝ }
 {
     let mut at = from;
+    let mut value: u64 = 0;
     let mut left = times;
     while 0 < left {
         let step = passed(s, at, codes);
@@ -331,9 +339,25 @@ fn repeated(s: &[u8], from: usize, codes: &[u8], times: u64) -> Step
             return step;
         }
         at = step.at;
+        value = std::num::wrapping_add_u64(value, step.value);
         left -= 1;
     }
-    ended(0, at)
+    Step {
+        number: 0,
+        at,
+        value,
+    }
+}
+
+// The fields that stand at any offset, several times over.
+pub fn read_at(s: &[u8], at: usize, codes: &[u8], times: u64) -> Step
+    ensures { λ r. ⌜ r .number ≤ 6 ⌝ }
+    ensures { λ r. ⌜ (at ≤ length (now (s .entry)) → Stepped at (length (now (s .entry))) r) ⌝ }
+{
+    if s.len() < at {
+        return ended(SHORT, at);
+    }
+    repeated(s, at, codes, times)
 }
 
 // A value more, unless reading has stopped.

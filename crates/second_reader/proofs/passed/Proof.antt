@@ -5,10 +5,10 @@ use Rattle.second_reader.proofs.passed.Statement.{statement}
 use Rattle.second_reader.proofs.passed.Tie as tie
 
 abbrev Inv-loop : tie.InvT-loop
-Inv-loop s from codes at₀ k₀ at k = (k ≤ length codes) × (from ≤ at) × (at ≤ length s)
+Inv-loop s from codes at₀ value₀ k₀ at value k = (k ≤ length codes) × (from ≤ at) × (at ≤ length s)
 
 abbrev μ-loop : tie.MeasureT-loop
-μ-loop s from codes at₀ k₀ at k = length codes - k
+μ-loop s from codes at₀ value₀ k₀ at value k = length codes - k
 
 loop-holds : tie.Need-loop-holds Inv-loop μ-loop
 loop-holds c = search needs
@@ -22,6 +22,9 @@ plain-requires c κs = search needs
 returns : tie.Need-returns Inv-loop μ-loop
 returns c = search needs
 
+wrapping-add-u64-requires : tie.Need-wrapping-add-u64-requires Inv-loop μ-loop
+wrapping-add-u64-requires c κs = search needs
+
 add-k : tie.Need-add-k Inv-loop μ-loop
 add-k c = search needs
 
@@ -30,9 +33,6 @@ loop-less c = search needs
 
 loop-again : tie.Need-loop-again Inv-loop μ-loop
 loop-again c = search needs
-
-ended-requires : tie.Need-ended-requires Inv-loop μ-loop
-ended-requires c κs = search needs
 
 returns-2 : tie.Need-returns-2 Inv-loop μ-loop
 returns-2 c = search needs
@@ -47,8 +47,8 @@ passed-spec =
     shared-slice-read-plain
     plain-requires
     returns
+    wrapping-add-u64-requires
     add-k
     loop-less
     loop-again
-    ended-requires
     returns-2)

@@ -5,10 +5,10 @@ use Rattle.second_reader.proofs.repeated.Statement.{statement}
 use Rattle.second_reader.proofs.repeated.Tie as tie
 
 abbrev Inv-loop : tie.InvT-loop
-Inv-loop s from codes times at₀ left₀ at left = (from ≤ at) × (at ≤ length s)
+Inv-loop s from codes times at₀ value₀ left₀ at value left = (from ≤ at) × (at ≤ length s)
 
 abbrev μ-loop : tie.MeasureT-loop
-μ-loop s from codes times at₀ left₀ at left = left
+μ-loop s from codes times at₀ value₀ left₀ at value left = left
 
 loop-holds : tie.Need-loop-holds Inv-loop μ-loop
 loop-holds c = search needs
@@ -19,6 +19,9 @@ passed-requires c κs = search needs
 returns : tie.Need-returns Inv-loop μ-loop
 returns c = search needs
 
+wrapping-add-u64-requires : tie.Need-wrapping-add-u64-requires Inv-loop μ-loop
+wrapping-add-u64-requires c κs = search needs
+
 sub-left : tie.Need-sub-left Inv-loop μ-loop
 sub-left c = search needs
 
@@ -27,9 +30,6 @@ loop-less c = search needs
 
 loop-again : tie.Need-loop-again Inv-loop μ-loop
 loop-again c = search needs
-
-ended-requires : tie.Need-ended-requires Inv-loop μ-loop
-ended-requires c κs = search needs
 
 returns-2 : tie.Need-returns-2 Inv-loop μ-loop
 returns-2 c = search needs
@@ -43,8 +43,8 @@ repeated-spec =
     loop-holds
     passed-requires
     returns
+    wrapping-add-u64-requires
     sub-left
     loop-less
     loop-again
-    ended-requires
     returns-2)
