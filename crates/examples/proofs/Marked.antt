@@ -13,6 +13,9 @@ use Rattle.message.specs.Layout.{columnEnd, groupsEnd, tupleEnd, optional, xidF
 use Rattle.message.specs.Kinds.{named}
 use Rattle.message.specs.Versions.{versionAllows, versionHas}
 use Rattle.message.specs.Messages.{refuse, readKind, readMessage}
+use Rattle.session.specs.declared.Answer.{Answer as Said}
+use Rattle.session.specs.declared.Answer.the-variants as said
+use Rattle.session.specs.Rules.{Given, given, answers}
 use Rattle.columns.specs.declared.Position.{Position}
 use Rattle.columns.specs.declared.Started.{Started}
 use Rattle.columns.specs.declared.Started.the-variants as started
@@ -32,11 +35,14 @@ data Question : Type 0 where
   tupleColumns : ℕ → Bool → List ℕ → Question
   -- which columns a Relation has
   relationColumns : ℕ → Bool → List ℕ → Question
+  -- what a fresh session of a version answers to messages, each tagged with its place in the list
+  giving : ℕ → List (List ℕ) → Question
 
 data Answer : Type 0 where
   reads : Read → Answer
   tupleHas : List Column → Answer
   relationHas : List RelationColumn → Answer
+  answersAre : List Said → Answer
 
 tupleSteps : List ℕ → ℕ → Position → List Column
 tupleSteps xs zero p = []
@@ -54,10 +60,15 @@ from (started.Refused r) steps = []
 read : ℕ → Bool → List ℕ → Read
 read version inBlock bytes = readMessage (record { number = version }) inBlock bytes
 
+tagged : ℕ → List (List ℕ) → List Given
+tagged n [] = []
+tagged n (xs ∷ l) = given xs n ∷ tagged (suc n) l
+
 ask : Question → Answer
 ask (reading version inBlock bytes) = reads (read version inBlock bytes)
 ask (tupleColumns version inBlock bytes) = tupleHas (from (tupleStart New bytes (read version inBlock bytes)) (tupleSteps bytes))
 ask (relationColumns version inBlock bytes) = relationHas (from (relationStart (read version inBlock bytes)) (relationSteps bytes))
+ask (giving version messages) = answersAre (answers (record { number = version }) [] (tagged 0 messages))
 
 record Example : Type 0 where
   question : Question
@@ -112,8 +123,23 @@ table =
     (answer.Message (a.Relation (record { xid = 0; relation = 5; namespace = record { start = 5; length = 0 }; name = record { start = 6; length = 1 }; identity = 0x64; count = 1; columns = 11 })))
     ∷ example (relationColumns 1 false (0x52 ∷ 0 ∷ 0 ∷ 0 ∷ 5 ∷ 0 ∷ 0x74 ∷ 0 ∷ 0x64 ∷ 0 ∷ 1 ∷ 1 ∷ 0x69 ∷ 0x64 ∷ 0 ∷ 0 ∷ 0 ∷ 0 ∷ 0x17 ∷ 0xFF ∷ 0xFF ∷ 0xFF ∷ 0xFF ∷ []))
     (relationHas (column.Column 1 (record { start = 12; length = 2 }) 23 (negsuc 0) ∷ []))
+    -- 10
+    ∷ example
+    (giving 2
+    ((0x53 ∷ 0 ∷ 0 ∷ 0 ∷ 7 ∷ 1 ∷ [])  -- S(7, first)
+    ∷ (0x52 ∷ 0 ∷ 0 ∷ 0 ∷ 7 ∷ 0 ∷ 0 ∷ 0 ∷ 5 ∷ 0 ∷ 0x74 ∷ 0 ∷ 0x64 ∷ 0 ∷ 1 ∷ 1 ∷ 0x69 ∷ 0x64 ∷ 0 ∷ 0 ∷ 0 ∷ 0 ∷ 0x17 ∷ 0xFF ∷ 0xFF ∷ 0xFF ∷ 0xFF ∷ [])  -- R 5 with one column
+    ∷ (0x45 ∷ [])  -- E
+    ∷ (0x42 ∷ 0 ∷ 0 ∷ 0 ∷ 0 ∷ 0 ∷ 0 ∷ 0 ∷ 0x10 ∷ 0 ∷ 0 ∷ 0 ∷ 0 ∷ 0 ∷ 0 ∷ 0 ∷ 0 ∷ 0 ∷ 0 ∷ 0 ∷ 9 ∷ [])  -- B
+    ∷ (0x49 ∷ 0 ∷ 0 ∷ 0 ∷ 5 ∷ 0x4E ∷ 0 ∷ 1 ∷ 0x6E ∷ [])  -- I into 5
+    ∷ (0x43 ∷ 0 ∷ 0 ∷ 0 ∷ 0 ∷ 0 ∷ 0 ∷ 0 ∷ 0 ∷ 0x10 ∷ 0 ∷ 0 ∷ 0 ∷ 0 ∷ 0 ∷ 0 ∷ 0 ∷ 0x18 ∷ 0 ∷ 0 ∷ 0 ∷ 0 ∷ 0 ∷ 0 ∷ 0 ∷ 0 ∷ [])  -- C
+    ∷ (0x63 ∷ 0 ∷ 0 ∷ 0 ∷ 7 ∷ 0 ∷ 0 ∷ 0 ∷ 0 ∷ 0 ∷ 0 ∷ 0 ∷ 0 ∷ 0x20 ∷ 0 ∷ 0 ∷ 0 ∷ 0 ∷ 0 ∷ 0 ∷ 0 ∷ 0x28 ∷ 0 ∷ 0 ∷ 0 ∷ 0 ∷ 0 ∷ 0 ∷ 0 ∷ 0 ∷ [])  -- c(7)
+    ∷ (0x42 ∷ 0 ∷ 0 ∷ 0 ∷ 0 ∷ 0 ∷ 0 ∷ 0 ∷ 0x30 ∷ 0 ∷ 0 ∷ 0 ∷ 0 ∷ 0 ∷ 0 ∷ 0 ∷ 0 ∷ 0 ∷ 0 ∷ 0 ∷ 0x0A ∷ [])  -- B
+    ∷ (0x49 ∷ 0 ∷ 0 ∷ 0 ∷ 5 ∷ 0x4E ∷ 0 ∷ 1 ∷ 0x6E ∷ [])  -- I into 5 with one column
+    ∷ (0x49 ∷ 0 ∷ 0 ∷ 0 ∷ 5 ∷ 0x4E ∷ 0 ∷ 2 ∷ 0x6E ∷ 0x6E ∷ [])  -- and with two
+    ∷ []))
+    (answersAre (said.Accepted ∷ said.Accepted ∷ said.Accepted ∷ said.Accepted ∷ said.Refused 9 0 ∷ said.Accepted ∷ said.Accepted ∷ said.Accepted ∷ said.Change 1 0x64 1 ∷ said.Refused 10 0 ∷ []))
     ∷ []
 
 marked : map (λ (e : Example). ask (e .question)) table ≡ map (λ (e : Example). e .answer) table
-unfolding ask read from tupleSteps relationSteps example is table tuplePosition columnField relationField tupleStep relationStep readMessage readKind named versionAllows versionHas valueField columnEnd groupsEnd tupleEnd optional xidField be wordAt numberField letterField member textField untilZero bytesField
+unfolding ask read tagged answers from tupleSteps relationSteps example is table tuplePosition columnField relationField tupleStep relationStep readMessage readKind named versionAllows versionHas valueField columnEnd groupsEnd tupleEnd optional xidField be wordAt numberField letterField member textField untilZero bytesField
 marked = refl
