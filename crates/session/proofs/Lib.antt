@@ -11,3 +11,4 @@ pub mod Others
 pub mod Oids
 pub mod Stores
 pub mod Listings
+pub mod Refusals
