@@ -12,3 +12,4 @@ pub mod Oids
 pub mod Stores
 pub mod Listings
 pub mod Refusals
+pub mod MarkedTen
