@@ -11,3 +11,5 @@ pub mod Others
 pub mod Oids
 pub mod Stores
 pub mod Listings
+pub mod Refusals
+pub mod MarkedTen

@@ -13,6 +13,9 @@ use Rattle.catalog.specs.Lists.{any, tally, change}
 use Rattle.catalog.specs.Table.{Row, keyIs, isFree, foundIn, lookupIn, freeRow, dropped, released, putRow}
 use Rattle.catalog.proofs.Laws as law
 use Rattle.catalog.proofs.Laws.{Table}
+use Rattle.session.specs.declared.Place.{Place}
+use Rattle.session.specs.declared.Place.the-variants.{Block}
+use Rattle.session.specs.State.{visibleIn}
 use Rattle.session.specs.Rules.{History, held, isFound, orElse}
 use Rattle.session.proofs.Formed.{NonZero}
 
@@ -28,6 +31,22 @@ found-any p (a ∷ l) = go (p a) (found-any p l)
     go : (v : Bool) → isFound (lookupIn p l) ≡ any p l → isFound (cond v (foundIn a) (lookupIn p l)) ≡ v || any p l
     go true r = refl
     go false r = r
+
+or-first : (s b : Lookup) → isFound s ≡ true → s ≡ orElse s b
+or-first Missing b k = absurd (false≢true k)
+or-first (Found g i c) b k = refl
+
+or-second : (s b : Lookup) → isFound s ≡ false → b ≡ orElse s b
+or-second Missing b k = refl
+or-second (Found g i c) b k = absurd (true≢false k)
+
+-- what a change in a block sees, by what its transaction has
+module _ (p : Place) (x o : ℕ) (r : List Row) (mine : Lookup) (e : p ≡ Block x) (q : mine ≡ lookupIn (keyIs x o) r) where
+  pub own-seen : isFound mine ≡ true → mine ≡ visibleIn p r o
+  own-seen k = rw (e, ← q) (or-first mine (lookupIn (keyIs 0 o) r) k)
+
+  pub common-seen : isFound mine ≡ false → (b : Lookup) → b ≡ lookupIn (keyIs 0 o) r → b ≡ visibleIn p r o
+  common-seen k b s = rw (e, ← q, ← s) (or-second mine b k)
 
 -- whether a holder has an announcement
 pub same-any : (l : List Row) (h : History) → Agrees l h → (t o : ℕ) → NonZero o → any (keyIs t o) l ≡ isFound (held h t o)
@@ -106,17 +125,9 @@ module _ (l : List Row) (h h' : History) (a : Agrees l h) where
         none t false true e0 ex = rw (← eqb-true x t ex) (mine 0)
         none t false false e0 ex = other t 0 e0 ex ∙ a .nobody t
 
-        first : (s b : Lookup) → isFound s ≡ true → s ≡ orElse s b
-        first Missing b k = absurd (false≢true k)
-        first (Found g i c) b k = refl
-
-        second : (s b : Lookup) → isFound s ≡ false → b ≡ orElse s b
-        second Missing b k = refl
-        second (Found g i c) b k = absurd (true≢false k)
-
         zero-found : (o : ℕ) → NonZero o → (v : Bool) → any (keyIs x o) l ≡ v → lookupIn (keyIs 0 o) (change (released x l) l) ≡ orElse (held h x o) (held h 0 o)
-        zero-found o z true e = law.release-common x l nz o z e ∙ a .same x o z ∙ first (held h x o) (held h 0 o) (sym (same-any l h a x o z) ∙ e)
-        zero-found o z false e = law.release-kept x l nz o z e ∙ a .same 0 o z ∙ second (held h x o) (held h 0 o) (sym (same-any l h a x o z) ∙ e)
+        zero-found o z true e = law.release-common x l nz o z e ∙ a .same x o z ∙ or-first (held h x o) (held h 0 o) (sym (same-any l h a x o z) ∙ e)
+        zero-found o z false e = law.release-kept x l nz o z e ∙ a .same 0 o z ∙ or-second (held h x o) (held h 0 o) (sym (same-any l h a x o z) ∙ e)
 
         go : (t o : ℕ) → NonZero o → (u v : Bool) → eqb t 0 ≡ u → eqb x t ≡ v → lookupIn (keyIs t o) (change (released x l) l) ≡ held h' t o
         go t o z true v e0 ex = rw (eqb-true t 0 e0) (zero-found o z (any (keyIs x o) l) refl ∙ sym (common o))

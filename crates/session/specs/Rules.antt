@@ -232,7 +232,9 @@ isLive h (pair t o) = isFound (held h t o)
 abbrev pub liveCount : History → ℕ
 liveCount h = length (keep (isLive h) (distinct samePair (pairs h)))
 
--- THE RULES: one for each kind, its tests in the order of the paper's bullet, over what history says
+-- THE RULES: one for each kind, its tests in the order of the paper's bullet, over what history says: where it stands (`p`), whether
+-- the xid is that of an open streamed transaction (`opened`), whether the R's pair is live, whether the room is full,
+-- whether the transaction had a change, and the announcement that is seen
 
 -- session refusals have offset 0
 abbrev pub refuse : ℕ → Answer
@@ -244,7 +246,7 @@ test ok n rest = cond ok rest (refuse n)
 
 -- B: idle, else 7. Xid is not an open streamed one, else 8.
 abbrev pub ruleBegin : Place → Bool → Answer
-ruleBegin p open' = test (isIdle p) 7 (test (not open') 8 answer.Accepted)
+ruleBegin p opened = test (isIdle p) 7 (test (not opened) 8 answer.Accepted)
 
 -- C: in a transaction, else 7. Commit LSN equals that Begin's final LSN, else 8 (HOUSE).
 abbrev pub ruleCommit : Place → ℕ → Answer
@@ -252,8 +254,8 @@ ruleCommit p lsn = test (inTransaction p) 7 (test (eqb lsn (finalLsn p)) 8 answe
 
 -- S: idle, else 7. First = 1 needs the xid not open, first = 0 needs it open, else 8. Then 12 if 16 are open and this would be another.
 abbrev pub ruleStreamStart : Place → Bool → Bool → Bool → Answer
-ruleStreamStart p first open' full =
-    test (isIdle p) 7 (test (cond first (not open') open') 8 (test (not (first && full)) 12 answer.Accepted))
+ruleStreamStart p first opened full =
+    test (isIdle p) 7 (test (cond first (not opened) opened) 8 (test (not (first && full)) 12 answer.Accepted))
 
 -- E: in a block, else 7.
 abbrev pub ruleStreamStop : Place → Answer
@@ -261,7 +263,7 @@ ruleStreamStop p = test (inBlock p) 7 answer.Accepted
 
 -- c and A: idle, else 7. Xid open, else 8.
 abbrev pub ruleStreamEnd : Place → Bool → Answer
-ruleStreamEnd p open' = test (isIdle p) 7 (test open' 8 answer.Accepted)
+ruleStreamEnd p opened = test (isIdle p) 7 (test opened 8 answer.Accepted)
 
 -- R, Y, M: in a transaction or block, else 7.
 abbrev pub ruleNeutral : Place → Answer
@@ -275,7 +277,7 @@ ruleRelation p live full = test (not (isIdle p)) 7 (test (live || not full) 11 a
 abbrev pub ruleOrigin : Place → Bool → Answer
 ruleOrigin p changed = test (not (isIdle p) && not changed) 7 answer.Accepted
 
--- a tuple under an announcement: as many columns; `O` only under identity `f`, and `K` only under another
+-- a tuple under an announcement: as many columns; `O` (0x4F) only under identity `f` (0x66), and `K` (0x4B) only under another
 abbrev pub fits : ℕ → ℕ → Tuple → Bool
 fits identity columns (tuple letter count) =
     eqb count columns && (not (eqb letter 0x4F) || eqb identity 0x66) && (not (eqb letter 0x4B) || not (eqb identity 0x66))
@@ -302,7 +304,7 @@ abbrev pub firstSeen : (ℕ → Lookup) → List ℕ → Lookup
 firstSeen see [] = Missing
 firstSeen see (o ∷ os) = see o
 
--- T: in a transaction or block, else 7. Each relation visible, else 9. It answers the announcement of its first OID.
+-- T: in a transaction or block, else 7. Each relation visible, else 9. It has no tuples to compare, and answers its first OID's announcement.
 abbrev pub ruleTruncate : Place → (ℕ → Lookup) → List ℕ → Answer
 ruleTruncate p see os = test (not (isIdle p)) 7 (test (allSeen see os) 9 (shaped (firstSeen see os) []))
 

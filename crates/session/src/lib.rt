@@ -9,7 +9,7 @@ ghost use Rattle.wire.specs.Fields.{numberField};
 ghost use Rattle.catalog.specs.Lists.{any};
 ghost use Rattle.catalog.specs.Table.{rowsOf, streamsOf, xidIs, keyIs, isFree};
 ghost use Rattle.session.specs.Events.{tuple, oidsAt, eventOf};
-ghost use Rattle.session.specs.Rules.{inBlock, holderAt, orElse, isFound, test, isIdle, ruleBegin, ruleCommit, ruleOrigin, ruleNeutral, ruleRelation, ruleChange, ruleTruncate, ruleStreamStart, ruleStreamStop, ruleStreamEnd, fits, allFit, shaped, allSeen, firstSeen, accepts, placeAfter, answers};
+ghost use Rattle.session.specs.Rules.{inBlock, holderAt, isFound, test, isIdle, ruleBegin, ruleCommit, ruleOrigin, ruleNeutral, ruleRelation, ruleChange, ruleTruncate, ruleStreamStart, ruleStreamStop, ruleStreamEnd, fits, allFit, shaped, allSeen, firstSeen, accepts, placeAfter, answers};
 ghost use Rattle.session.specs.State.{visibleIn, changedAt, flaggedAt, markedAt, answerFor, stateAt, flagAfter, streamsAfter, rowsAfter};
 ghost use Rattle.session.specs.Machine.{made, placeOf, phaseOf, currentOf, lsnOf, written, stepped, eventStep, stepOf, startOf, named, unnamed};
 ghost use Rattle.session.specs.Listed.{between, messagesIn, lastOr};
@@ -479,15 +479,6 @@ fn is_found(a: Lookup) -> bool
     }
 }
 
-fn or_else(a: Lookup, b: Lookup) -> Lookup
-    ensures { λ r. ⌜ r ≡ orElse a b ⌝ }
-{
-    match a {
-        Lookup::Missing => b,
-        Lookup::Found { .. } => a,
-    }
-}
-
 fn flagged_at(place: Place, b: bool) -> bool
     ensures { λ r. ⌜ r ≡ flaggedAt place b ⌝ }
 {
@@ -540,16 +531,10 @@ fn visible(
         }
         Place::Block(xid) => {
             let own = catalog::find_announcement(owners, oids, tags, identities, columns, xid, oid);
-            let common = catalog::find_announcement(
-                owners,
-                oids,
-                tags,
-                identities,
-                columns,
-                0,
-                oid,
-            );
-            or_else(own, common)
+            if is_found(own) {
+                return own;
+            }
+            catalog::find_announcement(owners, oids, tags, identities, columns, 0, oid)
         }
     }
 }

@@ -1,3 +1,4 @@
+-- `catalog::stream_changed` meets its contract. Assumes nothing.
 use Rattle.catalog.proofs.Streams.{mark-at, mark-none}
 use borrow.Author.Needs.{needs}
 use Rattle.catalog.proofs.stream_changed.Statement.{statement}

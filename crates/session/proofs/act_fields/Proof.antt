@@ -1,3 +1,4 @@
+-- `session::act_fields` meets its contract. Assumes nothing.
 use mathlib.Core.Path.{sym, _∙_}
 use Rattle.session.specs.Machine.{made}
 use Rattle.session.specs.Acts.{eventIn}

@@ -1,3 +1,4 @@
+-- `session::act_of` meets its contract. Assumes nothing.
 use Rattle.session.proofs.Others.{neutral-event}
 use borrow.Author.Needs.{needs}
 use Rattle.session.proofs.act_of.Statement.{statement}

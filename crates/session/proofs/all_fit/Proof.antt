@@ -1,3 +1,4 @@
+-- `session::all_fit` meets its contract. Assumes nothing.
 use mathlib.Core.Path.{sym, _∙_}
 use Rattle.session.proofs.Shapes.{new-only, both-fit, old-differs}
 use Rattle.session.proofs.all_fit.Statement.{statement}

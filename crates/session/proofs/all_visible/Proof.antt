@@ -1,3 +1,4 @@
+-- `session::all_visible` meets its contract. Assumes nothing.
 use Rattle.catalog.specs.Table.{rowsOf}
 use Rattle.session.specs.State.{visibleIn}
 use Prim.Native.Nat.{_≤_}

@@ -1,3 +1,4 @@
+-- `session::apply` meets its contract. Assumes nothing.
 use Rattle.session.specs.Machine.{made}
 use Rattle.session.specs.Acts.{eventIn}
 use Rattle.session.proofs.Stores.{stored}

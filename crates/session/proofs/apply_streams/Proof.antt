@@ -1,3 +1,4 @@
+-- `session::apply_streams` meets its contract. Assumes nothing.
 use mathlib.Core.Path.{sym, _∙_}
 use borrow.Author.Tests.{eq-eqb, ne-eqb}
 use Rattle.session.proofs.Others.{streams-stay}

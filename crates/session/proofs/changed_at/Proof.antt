@@ -1,3 +1,4 @@
+-- `session::changed_at` meets its contract. Assumes nothing.
 use mathlib.Core.Path.{sym, _∙_}
 use borrow.Author.Needs.{needs}
 use Rattle.session.proofs.changed_at.Statement.{statement}

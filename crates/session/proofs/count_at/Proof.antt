@@ -1,3 +1,4 @@
+-- `session::count_at` meets its contract. Assumes nothing.
 use Rattle.session.proofs.count_at.Statement.{statement}
 use Rattle.session.proofs.count_at.Tie as tie
 

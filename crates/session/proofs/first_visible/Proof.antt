@@ -1,3 +1,4 @@
+-- `session::first_visible` meets its contract. Assumes nothing.
 use Rattle.catalog.specs.Table.{rowsOf}
 use Rattle.session.specs.State.{visibleIn}
 use Rattle.session.proofs.Oids.{first-none, first-some}

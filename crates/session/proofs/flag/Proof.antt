@@ -1,3 +1,4 @@
+-- `session::flag` meets its contract. Assumes nothing.
 use borrow.Author.Tests.{eq-eqb, ne-eqb}
 use mathlib.Core.Path.{sym}
 use Rattle.session.proofs.flag.Statement.{statement}

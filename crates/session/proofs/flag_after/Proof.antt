@@ -1,3 +1,4 @@
+-- `session::flag_after` meets its contract. Assumes nothing.
 use Rattle.session.proofs.Others.{flag-stays}
 use borrow.Author.Needs.{needs}
 use Rattle.session.proofs.flag_after.Statement.{statement}

@@ -1,3 +1,4 @@
+-- `session::judge` meets its contract. Assumes nothing.
 use borrow.Author.Needs.{needs}
 use Rattle.session.proofs.judge.Statement.{statement}
 use Rattle.session.proofs.judge.Tie as tie

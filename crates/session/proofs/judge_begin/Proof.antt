@@ -1,3 +1,4 @@
+-- `session::judge_begin` meets its contract. Assumes nothing.
 use Rattle.session.proofs.judge_begin.Statement.{statement}
 use Rattle.session.proofs.judge_begin.Tie as tie
 

@@ -1,3 +1,4 @@
+-- `session::judge_change` meets its contract. Assumes nothing.
 use Rattle.session.proofs.judge_change.Statement.{statement}
 use Rattle.session.proofs.judge_change.Tie as tie
 

@@ -1,3 +1,4 @@
+-- `session::judge_origin` meets its contract. Assumes nothing.
 use Rattle.session.proofs.judge_origin.Statement.{statement}
 use Rattle.session.proofs.judge_origin.Tie as tie
 

@@ -1,3 +1,4 @@
+-- `session::judge_relation` meets its contract. Assumes nothing.
 use Rattle.session.proofs.judge_relation.Statement.{statement}
 use Rattle.session.proofs.judge_relation.Tie as tie
 

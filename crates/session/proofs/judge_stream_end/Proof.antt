@@ -1,3 +1,4 @@
+-- `session::judge_stream_end` meets its contract. Assumes nothing.
 use Rattle.session.proofs.judge_stream_end.Statement.{statement}
 use Rattle.session.proofs.judge_stream_end.Tie as tie
 

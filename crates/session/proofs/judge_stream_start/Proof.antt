@@ -1,3 +1,4 @@
+-- `session::judge_stream_start` meets its contract. Assumes nothing.
 use Rattle.session.proofs.judge_stream_start.Statement.{statement}
 use Rattle.session.proofs.judge_stream_start.Tie as tie
 

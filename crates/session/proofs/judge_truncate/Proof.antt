@@ -1,3 +1,4 @@
+-- `session::judge_truncate` meets its contract. Assumes nothing.
 use Rattle.session.proofs.judge_truncate.Statement.{statement}
 use Rattle.session.proofs.judge_truncate.Tie as tie
 

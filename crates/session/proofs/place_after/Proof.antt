@@ -1,3 +1,4 @@
+-- `session::place_after` meets its contract. Assumes nothing.
 use Rattle.session.proofs.Others.{place-stays}
 use borrow.Author.Needs.{needs}
 use Rattle.session.proofs.place_after.Statement.{statement}

@@ -1,3 +1,4 @@
+-- `session::rule_shape` meets its contract. Assumes nothing.
 use mathlib.Core.Path.{sym}
 use borrow.Author.Needs.{needs}
 use Rattle.session.proofs.rule_shape.Statement.{statement}

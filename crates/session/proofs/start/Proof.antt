@@ -1,3 +1,4 @@
+-- `session::start` meets its contract. Assumes nothing.
 use mathlib.Core.Path.{refl}
 use Rattle.session.specs.Machine.{startOf}
 use Rattle.session.proofs.start.Statement.{statement}

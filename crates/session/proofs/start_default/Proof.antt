@@ -1,3 +1,4 @@
+-- `session::start_default` meets its contract. Assumes nothing.
 use Rattle.session.specs.Machine.{startOf}
 use Rattle.session.proofs.start_default.Statement.{statement}
 use Rattle.session.proofs.start_default.Tie as tie

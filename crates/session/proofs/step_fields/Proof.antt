@@ -1,3 +1,4 @@
+-- `session::step_fields` meets its contract. Assumes nothing.
 use Rattle.session.specs.Machine.{made}
 use Rattle.session.proofs.Stores.{unread, given-event}
 use borrow.Author.Needs.{needs}

@@ -1,3 +1,4 @@
+-- `session::step_part` meets its contract. Assumes nothing.
 use Rattle.session.proofs.Listings.{reversed, past, inside}
 use borrow.Author.Needs.{needs}
 use Rattle.session.proofs.step_part.Statement.{statement}

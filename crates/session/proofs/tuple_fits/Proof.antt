@@ -1,3 +1,4 @@
+-- `session::tuple_fits` meets its contract. Assumes nothing.
 use Rattle.session.proofs.Shapes.{count-differs, old-fits, key-fits, other-fits}
 use Rattle.session.proofs.tuple_fits.Statement.{statement}
 use Rattle.session.proofs.tuple_fits.Tie as tie

@@ -1,3 +1,4 @@
+-- `session::update` meets its contract. Assumes nothing.
 use borrow.Author.Needs.{needs}
 use Rattle.session.proofs.update.Statement.{statement}
 use Rattle.session.proofs.update.Tie as tie
