@@ -1,11 +1,13 @@
 // Gives the cases of its standard input to the reader and to the second reader, and says for each group how many ran and
 // on how many both gave the same answer and the one that stands there. Cases that are marked for it are then varied: at
 // every version and place, cut short, made longer, and with one byte changed. What a message has is stepped through to its
-// end, and from every offset.
+// end, and from every offset. A message that was read is written back from its bytes, and made-up ones are written or refused.
 ghost use Prim.Native.Nat.{_≤_};
 ghost use lib.ListN.{length};
 use libc::STDIN_FILENO;
 use libc::STDOUT_FILENO;
+use message::Message;
+use message::Read;
 use message::Version;
 use second_reader::Seen;
 use text::Decimal;
@@ -13,6 +15,7 @@ use text::Decimal;
 mod flat;
 mod steps;
 mod text;
+mod writing;
 
 const AS_WRITTEN: u8 = 0;
 
@@ -27,6 +30,12 @@ const CHANGED: u8 = 4;
 const STEPS: u8 = 5;
 
 const POSITIONS: u8 = 6;
+
+const WRITTEN_BACK: u8 = 7;
+
+const LESS_ROOM: u8 = 8;
+
+const WRITTEN_AT_EVERY_VERSION: u8 = 9;
 
 // The bytes that are put in: numbers at the edges, and every letter that a layout has.
 const BYTES: [u8; 35] = *b"\x00\x01\x02\x03\x04\x06\x07\x08\x40\x7F\x80\xFFABCDEIKMNORSTUYbcdfintu";
@@ -284,11 +293,50 @@ fn run_positions(tally: Tally, version: u32, in_block: bool, bytes: &[u8]) -> Ta
     sum
 }
 
+fn is_written(pass: u8, version: u32, in_block: bool, message: Message, bytes: &[u8]) -> bool {
+    let is_good = match pass {
+        WRITTEN_BACK => writing::is_written_back(version, in_block, message, bytes),
+        LESS_ROOM => writing::is_refused_in_less(version, in_block, message, bytes),
+        _ => writing::is_written_at_every_version(in_block, message, bytes),
+    };
+    if !is_good {
+        print_message(version, in_block, bytes);
+        print(b" written\n");
+    }
+    is_good
+}
+
+// Writes the message that the bytes are, if they are one.
+fn run_written(tally: Tally, pass: u8, version: u32, in_block: bool, bytes: &[u8]) -> Tally {
+    match reader::read_message(Version { number: version }, in_block, bytes) {
+        Read::Message(m) => tally.with(is_written(pass, version, in_block, m, bytes)),
+        Read::Refused(_) => tally,
+    }
+}
+
 fn run_more(tally: Tally, pass: u8, version: u32, in_block: bool, bytes: &[u8]) -> Tally {
     match pass {
         STEPS => tally.with(is_stepped(version, in_block, bytes)),
-        _ => run_positions(tally, version, in_block, bytes),
+        POSITIONS => run_positions(tally, version, in_block, bytes),
+        _ => run_written(tally, pass, version, in_block, bytes),
     }
+}
+
+// Writes the made-up message of a line.
+fn run_made(tally: Tally, line: &[u8], message: &mut [u8]) -> Tally {
+    let case = text::parse_case(line, 1, message);
+    let is_good = case.good
+        && writing::is_made(
+            case.version,
+            case.in_block,
+            text::front(message, case.size),
+            text::back(line, case.answer),
+        );
+    if !is_good {
+        print(b"  ");
+        print(line);
+    }
+    tally.with(is_good)
 }
 
 // Whether a line with this first byte is a group's name, a note or empty.
@@ -303,6 +351,13 @@ fn run_line(tally: Tally, pass: u8, line: &[u8], message: &mut [u8]) -> Tally {
     let first = text::byte_at(line, 0);
     if is_no_case(first) {
         return tally;
+    }
+    if first == b'!' {
+        return if pass == AS_WRITTEN {
+            run_made(tally, line, message)
+        } else {
+            tally
+        };
     }
     let is_varied = first == b'~';
     let case = text::parse_case(line, is_varied as usize, message);
@@ -368,13 +423,16 @@ fn print_pass(pass: u8) {
         LONGER => print(b"varied, a byte longer"),
         CHANGED => print(b"varied, a byte changed"),
         STEPS => print(b"steps"),
-        _ => print(b"steps from every offset"),
+        POSITIONS => print(b"steps from every offset"),
+        WRITTEN_BACK => print(b"written back"),
+        LESS_ROOM => print(b"written back into less room"),
+        _ => print(b"written back at every version and place"),
     }
 }
 
 fn run_passes(cases: &[u8], message: &mut [u8]) {
     let mut pass = EVERY_VERSION;
-    while pass <= POSITIONS {
+    while pass <= WRITTEN_AT_EVERY_VERSION {
         let tally = run_lines(pass, cases, message);
         print_pass(pass);
         print_tally(tally);

@@ -12,4 +12,3 @@ pub mod Oids
 pub mod Stores
 pub mod Listings
 pub mod Refusals
-pub mod MarkedTen
