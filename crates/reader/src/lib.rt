@@ -209,7 +209,7 @@ pub fn relation_columns(s: &[u8], c: Cursor, n: u16) -> Cursor
     at
 }
 
-// The end of `n` OIDs of a Truncate.
+// The end of `n` OIDs of a Truncate. A refusal ends the loop, however many are left.
 pub fn relation_oids(s: &[u8], c: Cursor, n: u32) -> Cursor
     ensures { λ r. ⌜ r ≡ groupsEnd (id ∷ []) (now (s .entry)) n c ⌝ }
 {
@@ -217,6 +217,12 @@ pub fn relation_oids(s: &[u8], c: Cursor, n: u32) -> Cursor
     let mut at = c;
     while 0 < left {
         let Field32 { value: _, next } = wire::number32(s, at, 1, MAX32, Refusal::FIELD);
+        if let Cursor::Refused {
+            number: _,
+            offset: _,
+        } = next {
+            return next;
+        }
         at = next;
         left -= 1;
     }
