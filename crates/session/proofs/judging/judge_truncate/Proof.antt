@@ -1,0 +1,28 @@
+-- `session::judging::judge_truncate` meets its contract. Assumes nothing.
+use Rattle.session.proofs.judging.judge_truncate.Statement.{statement}
+use Rattle.session.proofs.judging.judge_truncate.Tie as tie
+
+all-visible-requires : tie.Need-all-visible-requires
+all-visible-requires c κs = tt
+
+first-visible-requires : tie.Need-first-visible-requires
+first-visible-requires c κs = tt
+
+rule-relations-requires : tie.Need-rule-relations-requires
+rule-relations-requires c κs = tt
+
+within-requires : tie.Need-within-requires
+within-requires c κs = tt
+
+returns : tie.Need-returns
+returns c = rw (c .within .ensures, c .before .rule-relations .ensures, c .before .before .first-visible .ensures, c .before .before .before .all-visible .ensures)
+
+pub judge-truncate-spec : {M : Type 1} → statement M
+judge-truncate-spec =
+    tie.close
+    (tie.spec
+    all-visible-requires
+    first-visible-requires
+    rule-relations-requires
+    within-requires
+    returns)

@@ -1,0 +1,14 @@
+-- `session::rules::answer_of` meets its contract. Assumes nothing.
+use borrow.Author.Tests.{eq-eqb, ne-eqb}
+use mathlib.Core.Path.{sym}
+use Rattle.session.proofs.rules.answer_of.Statement.{statement}
+use Rattle.session.proofs.rules.answer_of.Tie as tie
+
+returns : tie.Need-returns
+returns c = sym (rw (eq-eqb _ _ (c .if1 .taken)))
+
+returns-2 : tie.Need-returns-2
+returns-2 c = sym (rw (ne-eqb _ _ (c .if1 .left)))
+
+pub answer-of-spec : {M : Type 1} → statement M
+answer-of-spec = tie.close (tie.spec returns returns-2)

@@ -1,0 +1,282 @@
+// The rules, over what the session says: where it stands, what is open, what is announced.
+ghost use mathlib.Core.Path.{_≡_};
+ghost use mathlib.Core.Bool.{cond, not, _||_};
+ghost use mathlib.Core.List.{[]};
+ghost use lib.Dec.{eqb};
+ghost use Rattle.session.specs.Events.{tuple};
+ghost use Rattle.session.specs.Rules.{inBlock, holderAt, isFound, test, isIdle, ruleBegin, ruleCommit, ruleOrigin, ruleNeutral, ruleStreamStart, ruleStreamStop, ruleStreamEnd, fits, allFit, shaped, accepts};
+ghost use Rattle.session.specs.Machine.{placeOf};
+ghost use Rattle.session.specs.Acts.{tuplesOf, answered};
+use crate::Act;
+use crate::Answer;
+use crate::Place;
+use crate::Session;
+use catalog::Lookup;
+use message::Relation;
+use wire::Refusal;
+
+pub fn place_of(phase: u8, current: u32, lsn: u64) -> Place
+    ensures { λ r. ⌜ r ≡ placeOf phase current lsn ⌝ }
+{
+    if phase == Session::TRANSACTION {
+        return Place::Transaction(lsn);
+    }
+    if phase == Session::BLOCK {
+        Place::Block(current)
+    } else {
+        Place::Idle
+    }
+}
+
+pub fn in_block(place: Place) -> bool
+    ensures { λ r. ⌜ r ≡ inBlock place ⌝ }
+{
+    match place {
+        Place::Idle => false,
+        Place::Transaction(_) => false,
+        Place::Block(_) => true,
+    }
+}
+
+pub fn holder_at(place: Place) -> u32
+    ensures { λ r. ⌜ r ≡ holderAt place ⌝ }
+{
+    match place {
+        Place::Idle => 0,
+        Place::Transaction(_) => 0,
+        Place::Block(xid) => xid,
+    }
+}
+
+pub fn flag(b: u8) -> bool
+    ensures { λ r. ⌜ r ≡ not (eqb b 0) ⌝ }
+{
+    if b == 0 { false } else { true }
+}
+
+pub fn bit(b: bool) -> u8
+    ensures { λ r. ⌜ r ≡ cond b 1 0 ⌝ }
+{
+    if b { 1 } else { 0 }
+}
+
+// The answer that a rule's number stands for: 0 where nothing is refused.
+pub fn answer_of(number: u8) -> Answer
+    ensures { λ r. ⌜ r ≡ answered number ⌝ }
+{
+    if number == 0 {
+        Answer::Accepted
+    } else {
+        Answer::Refused { number, offset: 0 }
+    }
+}
+
+pub fn accepted(a: Answer) -> bool
+    ensures { λ r. ⌜ r ≡ accepts a ⌝ }
+{
+    match a {
+        Answer::Accepted => true,
+        Answer::Change { .. } => true,
+        Answer::Refused { .. } => false,
+    }
+}
+
+// The answer of a message that needs a transaction or a block.
+pub fn within(place: Place, a: Answer) -> Answer
+    ensures { λ r. ⌜ r ≡ test (not (isIdle place)) 7 a ⌝ }
+{
+    match place {
+        Place::Idle => Answer::Refused {
+            number: Refusal::PLACE,
+            offset: 0,
+        },
+        Place::Transaction(_) => a,
+        Place::Block(_) => a,
+    }
+}
+
+// The rules give a refusal's number, or 0.
+pub fn rule_begin(place: Place, open: bool) -> u8
+    ensures { λ r. ⌜ answered r ≡ ruleBegin place «open» ⌝ }
+{
+    match place {
+        Place::Idle => { if open { Refusal::TRANSACTION } else { 0 } }
+        Place::Transaction(_) => Refusal::PLACE,
+        Place::Block(_) => Refusal::PLACE,
+    }
+}
+
+pub fn rule_commit(place: Place, lsn: u64) -> u8
+    ensures { λ r. ⌜ answered r ≡ ruleCommit place lsn ⌝ }
+{
+    match place {
+        Place::Idle => Refusal::PLACE,
+        Place::Transaction(last) => { if lsn == last { 0 } else { Refusal::TRANSACTION } }
+        Place::Block(_) => Refusal::PLACE,
+    }
+}
+
+pub fn rule_neutral(place: Place) -> u8
+    ensures { λ r. ⌜ answered r ≡ ruleNeutral place ⌝ }
+{
+    match place {
+        Place::Idle => Refusal::PLACE,
+        Place::Transaction(_) => 0,
+        Place::Block(_) => 0,
+    }
+}
+
+pub fn rule_origin(place: Place, changed: bool) -> u8
+    ensures { λ r. ⌜ answered r ≡ ruleOrigin place changed ⌝ }
+{
+    match place {
+        Place::Idle => Refusal::PLACE,
+        Place::Transaction(_) => { if changed { Refusal::PLACE } else { 0 } }
+        Place::Block(_) => { if changed { Refusal::PLACE } else { 0 } }
+    }
+}
+
+pub fn rule_room(live: bool, full: bool) -> u8
+    ensures { λ r. ⌜ answered r ≡ test (live || not full) 11 Answer.Accepted ⌝ }
+{
+    if live {
+        return 0;
+    }
+    if full { Refusal::ANNOUNCEMENTS } else { 0 }
+}
+
+pub fn rule_stream_start(place: Place, first: bool, open: bool, full: bool) -> u8
+    ensures { λ r. ⌜ answered r ≡ ruleStreamStart place first «open» full ⌝ }
+{
+    match place {
+        Place::Idle => {
+            if first {
+                if open {
+                    return Refusal::TRANSACTION;
+                }
+                if full { Refusal::STREAMS } else { 0 }
+            } else {
+                if open { 0 } else { Refusal::TRANSACTION }
+            }
+        }
+        Place::Transaction(_) => Refusal::PLACE,
+        Place::Block(_) => Refusal::PLACE,
+    }
+}
+
+pub fn rule_stream_stop(place: Place) -> u8
+    ensures { λ r. ⌜ answered r ≡ ruleStreamStop place ⌝ }
+{
+    match place {
+        Place::Idle => Refusal::PLACE,
+        Place::Transaction(_) => Refusal::PLACE,
+        Place::Block(_) => 0,
+    }
+}
+
+pub fn rule_stream_end(place: Place, open: bool) -> u8
+    ensures { λ r. ⌜ answered r ≡ ruleStreamEnd place «open» ⌝ }
+{
+    match place {
+        Place::Idle => { if open { 0 } else { Refusal::TRANSACTION } }
+        Place::Transaction(_) => Refusal::PLACE,
+        Place::Block(_) => Refusal::PLACE,
+    }
+}
+
+// Whether a tuple has the columns of an announcement, and a letter that its identity allows.
+pub fn tuple_fits(identity: u8, columns: u16, letter: u8, count: u16) -> bool
+    ensures { λ r. ⌜ r ≡ fits identity columns (tuple letter count) ⌝ }
+{
+    if count != columns {
+        return false;
+    }
+    if letter == Act::OLD {
+        return identity == Relation::FULL;
+    }
+    if letter == Act::KEY {
+        return identity != Relation::FULL;
+    }
+    true
+}
+
+pub fn all_fit(identity: u8, columns: u16, old: u8, old_count: u16, letter: u8, count: u16) -> bool
+    ensures { λ r. ⌜ r ≡ allFit identity columns (tuplesOf old «old_count» letter count) ⌝ }
+{
+    let fit = tuple_fits(identity, columns, letter, count);
+    if old == 0 {
+        return fit;
+    }
+    if tuple_fits(identity, columns, old, old_count) {
+        fit
+    } else {
+        false
+    }
+}
+
+// The answer of a change that sees an announcement, or none.
+pub fn rule_shape(seen: Lookup, old: u8, old_count: u16, letter: u8, count: u16) -> Answer
+    ensures { λ r. ⌜ r ≡ shaped seen (tuplesOf old «old_count» letter count) ⌝ }
+{
+    match seen {
+        Lookup::Missing => Answer::Refused {
+            number: Refusal::RELATION,
+            offset: 0,
+        },
+        Lookup::Found {
+            tag,
+            identity,
+            columns,
+        } => {
+            if all_fit(identity, columns, old, old_count, letter, count) {
+                Answer::Change {
+                    tag,
+                    identity,
+                    columns,
+                }
+            } else {
+                Answer::Refused {
+                    number: Refusal::SHAPE,
+                    offset: 0,
+                }
+            }
+        }
+    }
+}
+
+// The answer of a Truncate, all of whose relations are visible or not, from what its first sees.
+pub fn rule_relations(all: bool, first: Lookup) -> Answer
+    ensures { λ r. ⌜ r ≡ test all 9 (shaped first []) ⌝ }
+{
+    if all {
+        match first {
+            Lookup::Missing => Answer::Refused {
+                number: Refusal::RELATION,
+                offset: 0,
+            },
+            Lookup::Found {
+                tag,
+                identity,
+                columns,
+            } => Answer::Change {
+                tag,
+                identity,
+                columns,
+            },
+        }
+    } else {
+        Answer::Refused {
+            number: Refusal::RELATION,
+            offset: 0,
+        }
+    }
+}
+
+pub fn is_found(a: Lookup) -> bool
+    ensures { λ r. ⌜ r ≡ isFound a ⌝ }
+{
+    match a {
+        Lookup::Missing => false,
+        Lookup::Found { .. } => true,
+    }
+}
