@@ -1,0 +1,141 @@
+/* Kitsoriqu: PostgreSQL's logical replication messages (pgoutput, protocol versions 1 and 2), read, written and judged in sequence.
+ *
+ * Every function answers every input. It returns 0, or the number of a refusal (KQ_VERSION to KQ_OUTPUT) with the offset at which it
+ * arose as the first number of what it fills in. It reads the bytes it is lent and writes what its comment names, nothing else.
+ * A pointer must be good for the length that comes with it (or for the numbers its type names), and what is written must not overlap
+ * what is read; a length of 0 may come with any pointer that is not NULL. That is all a caller can do wrong.
+ *
+ * `version` is any number; one that is not 1 or 2 is refused with KQ_VERSION. `in_block` is 0 outside a stream block and anything else
+ * inside one. */
+#ifndef KITSORIQU_H
+#define KITSORIQU_H
+
+#include <stddef.h>
+#include <stdint.h>
+
+#ifdef __cplusplus
+extern "C" {
+#endif
+
+/* The refusals. */
+enum {
+    KQ_VERSION = 1,       /* version not 1 or 2; or version 1 inside a block */
+    KQ_SHORT = 2,         /* a field, text or value goes past the message's end; in writing, past the source */
+    KQ_KIND = 3,          /* the first byte is no kind of this version */
+    KQ_FIELD = 4,         /* a field holds what its layout forbids; a tuple asked for that the message lacks */
+    KQ_LEFT_OVER = 5,     /* bytes are left after the last field */
+    KQ_RANGE = 6,         /* a count is outside its range, or the message is too long (then at 0) */
+    KQ_PLACE = 7,         /* the kind can't stand here */
+    KQ_TRANSACTION = 8,   /* an xid or LSN doesn't fit what is open */
+    KQ_RELATION = 9,      /* a named relation has no visible announcement */
+    KQ_SHAPE = 10,        /* the shape differs from the announcement */
+    KQ_ANNOUNCEMENTS = 11, /* no room for an announcement */
+    KQ_STREAMS = 12,      /* no room for a streamed transaction */
+    KQ_OUTPUT = 13        /* the output is shorter than the message to be written */
+};
+
+/* What kq_column_step returns when there is nothing left: no refusal. */
+enum { KQ_OVER = 255 };
+
+/* The kinds of messages: the first number of the flat form. */
+enum {
+    KQ_BEGIN = 1,
+    KQ_COMMIT = 2,
+    KQ_ORIGIN = 3,
+    KQ_RELATION_MESSAGE = 4,
+    KQ_TYPE = 5,
+    KQ_INSERT = 6,
+    KQ_UPDATE = 7,
+    KQ_DELETE = 8,
+    KQ_TRUNCATE = 9,
+    KQ_MESSAGE = 10,
+    KQ_STREAM_START = 11,
+    KQ_STREAM_STOP = 12,
+    KQ_STREAM_COMMIT = 13,
+    KQ_STREAM_ABORT = 14
+};
+
+/* THE FLAT FORM of a message: its kind, its fields in the order of its layout, and zeros to KQ_FLAT numbers.
+ *
+ *   Begin          final LSN, time, xid
+ *   Commit         flags, commit LSN, end LSN, time
+ *   Origin         LSN, name start, name length
+ *   Relation       xid, relation OID, namespace start, length, name start, length, identity, column count, columns' start
+ *   Type           xid, type OID, namespace start, length, name start, length
+ *   Insert         xid, relation OID, new tuple's start
+ *   Update         xid, relation OID, old tuple's letter ('K', 'O' or 0), its start (or 0), new tuple's start
+ *   Delete         xid, relation OID, tuple's letter ('K' or 'O'), its start
+ *   Truncate       xid, relation count, options, OIDs' start
+ *   Message        xid, flags, LSN, prefix start, length, content start, length
+ *   Stream Start   xid, first
+ *   Stream Stop    -
+ *   Stream Commit  xid, flags, commit LSN, end LSN, time
+ *   Stream Abort   xid, sub-xid
+ *
+ * Starts are offsets in the message's bytes (in writing: in the source). A text's length is without its zero byte. A time is the 64 bits
+ * of a signed number of microseconds since 2000-01-01. The xid of a kind that has one only inside a stream block is 0 outside. */
+#define KQ_FLAT 16
+
+/* Reads one message. 0: out is its flat form. Else a refusal: out is its offset and zeros. */
+uint32_t kq_read(uint32_t version, uint32_t in_block, const uint8_t *bytes, size_t len, uint64_t out[KQ_FLAT]);
+
+/* Writes the message of a flat form, whose texts, content, tuples, columns and OIDs lie in source, to the front of out.
+ * 0: *result is its length, and out's bytes behind it are as they were. Else a refusal: *result is its offset (in the message being
+ * written), and out is as it was. Numbers that are no message's flat form (no such kind, too big for a field, not 0 behind the last)
+ * are refused with KQ_FIELD at 0 before all else. */
+uint32_t kq_write(uint32_t version, uint32_t in_block, const uint64_t fields[KQ_FLAT], const uint8_t *source, size_t source_len,
+                  uint8_t *out, size_t out_len, uint64_t *result);
+
+/* What can be stepped through. A Delete's tuple is its old one. */
+enum { KQ_NEW_TUPLE = 0, KQ_OLD_TUPLE = 1, KQ_COLUMNS = 2, KQ_OIDS = 3 };
+
+/* Reads the whole message and starts stepping through one of its sections. 0: position is the offset of the first column and how many
+ * are left. Else a refusal (the message's own; KQ_FIELD at 0 for a section that it lacks): position is the offset and 0. */
+uint32_t kq_column_start(uint32_t version, uint32_t in_block, const uint8_t *bytes, size_t len, uint32_t section, uint64_t position[2]);
+
+/* Steps past what stands at a position, which may be made up.
+ * 0: position has moved on, and out is
+ *     of a tuple     the column's letter ('n' null, 'u' unchanged, 't' text, 'b' binary), its value's start and length (or 0 and 0)
+ *     of KQ_COLUMNS  the key flag, the name's start and length, the type OID, the 32 bits of the type modifier
+ *     of KQ_OIDS     the relation OID
+ * and zeros behind. KQ_OVER: none are left; out is zeros. Else a refusal: out is its offset and zeros. Unless 0 is returned, position
+ * is as it was. */
+#define KQ_STEP 5
+uint32_t kq_column_step(uint32_t section, const uint8_t *bytes, size_t len, uint64_t position[2], uint64_t out[KQ_STEP]);
+
+/* A session: numbers only, each content of which means something, so that a made-up one is answered too. Start it with one of the two
+ * functions below and leave its fields alone. It may be moved and copied; one session must not be given two messages at once. */
+typedef struct kq_session {
+    uint32_t version;
+    uint8_t phase;
+    uint32_t current_xid;
+    uint64_t final_lsn;
+    uint8_t changed;
+    uint32_t stream_xids[16];
+    uint8_t stream_changed[16];
+    uint32_t owners[256];
+    uint32_t oids[256];
+    uint64_t tags[256];
+    uint8_t identities[256];
+    uint16_t columns[256];
+} kq_session;
+
+#define KQ_SESSION_SIZE 4976
+
+/* Starts a session of a version. With a version that is not 1 or 2 it answers KQ_VERSION at 0 to every message. */
+void kq_session_start(kq_session *session, uint32_t version);
+
+/* Starts a session with no version named: version 1. */
+void kq_session_start_default(kq_session *session);
+
+/* Gives a session one message, with a tag of the caller's choice that an announcement (an accepted Relation) keeps.
+ * 0: accepted; answer is 1 and its announcement's tag, replica identity and column count for an Insert, Update, Delete or Truncate (its
+ * first relation's), and four zeros for any other kind. Else a refusal: answer is its offset and zeros, and the session is as it was. */
+#define KQ_ANSWER 4
+uint32_t kq_session_give(kq_session *session, const uint8_t *bytes, size_t len, uint64_t tag, uint64_t answer[KQ_ANSWER]);
+
+#ifdef __cplusplus
+}
+#endif
+
+#endif
