@@ -2,6 +2,7 @@
 // on how many both gave the same answer and the one that stands there. Cases that are marked for it are then varied: at
 // every version and place, cut short, made longer, and with one byte changed. What a message has is stepped through to its
 // end, and from every offset. A message that was read is written back from its bytes, and made-up ones are written or refused.
+// Messages are given to sessions.
 ghost use Prim.Native.Nat.{_≤_};
 ghost use lib.ListN.{length};
 use libc::STDIN_FILENO;
@@ -13,6 +14,7 @@ use second_reader::Seen;
 use text::Decimal;
 
 mod flat;
+mod sessions;
 mod steps;
 mod text;
 mod writing;
@@ -342,7 +344,7 @@ fn run_made(tally: Tally, line: &[u8], message: &mut [u8]) -> Tally {
 // Whether a line with this first byte is a group's name, a note or empty.
 fn is_no_case(first: u8) -> bool {
     match first {
-        b'#' | b'/' | b'\n' => true,
+        b'#' | b'/' | b'>' | b'+' | b'\n' => true,
         _ => false,
     }
 }
@@ -409,7 +411,8 @@ fn run_groups(cases: &[u8], message: &mut [u8]) {
     while at < cases.len() {
         let next = text::next_group(cases, text::next_line(cases, at));
         let group = &cases[at..next];
-        let tally = run_lines(AS_WRITTEN, group, message);
+        let read = run_lines(AS_WRITTEN, group, message);
+        let tally = sessions::run_lines(read, group, message);
         print(text::name(group));
         print_tally(tally);
         at = next;

@@ -257,7 +257,7 @@ fn hex_piece(text: &[u8], at: usize, message: &mut [u8], size: usize) -> Hex
 }
 
 // The bytes of a case, up to its `=`. They leave room in the message for one more.
-fn hex_bytes(text: &[u8], from: usize, message: &mut [u8]) -> Hex
+pub fn hex_bytes(text: &[u8], from: usize, message: &mut [u8]) -> Hex
     ensures { λ r. ⌜ (r .next ≤ length (now (text .entry))) × (r .size ≤ length (now (message .entry))) ⌝ }
 {
     let mut at = from;

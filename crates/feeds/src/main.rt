@@ -1,6 +1,5 @@
-// Gives traces, named by its arguments, each to a fresh session of the version in its name, and prints each refusal and how many
-// messages were accepted. Most are feeds recorded from a PostgreSQL server; of those made by hand it also prints what each change
-// was answered. A trace is records of the mark C3 4D, a length of 32 bits and a message.
+// Gives feeds recorded from a PostgreSQL server, named by its arguments, each to a fresh session of the version in its name, and
+// prints each refusal and how many messages were accepted. A feed is records of the mark C3 4D, a length of 32 bits and a message.
 ghost use Prim.Native.Nat.{_+_, _≤_, _<_};
 ghost use mathlib.Core.Path.{_≡_};
 ghost use lib.ListN.{length, take};
@@ -53,34 +52,12 @@ fn record_end(trace: &[u8], at: usize) -> usize
     }
 }
 
-fn print_change(index: u64, tag: u64, identity: u8, columns: u16) {
-    let letter = [identity];
-    print_number(index);
-    print(b": announcement ");
-    print_number(tag);
-    print(b", identity ");
-    print(&letter);
-    print(b", columns ");
-    print_number(columns as u64);
-    print(b"\n");
-}
-
-// Prints a refusal, and for a made trace what a change was answered; 1 where the message was accepted.
-fn note(index: u64, answer: Answer, is_made: bool) -> u64
+// Prints a refusal; 1 where the message was accepted.
+fn note(index: u64, answer: Answer) -> u64
     ensures { λ r. ⌜ r ≤ 1 ⌝ }
 {
     match answer {
-        Answer::Accepted => 1,
-        Answer::Change {
-            tag,
-            identity,
-            columns,
-        } => {
-            if is_made {
-                print_change(index, tag, identity, columns);
-            }
-            1
-        }
+        Answer::Accepted | Answer::Change { .. } => 1,
         Answer::Refused { number, offset } => {
             print_number(index);
             print(b": ");
@@ -94,7 +71,7 @@ fn note(index: u64, answer: Answer, is_made: bool) -> u64
 }
 
 // Gives every message of a feed to a fresh session, tagged with its index.
-fn give_all(version: u32, trace: &[u8], is_made: bool) -> Counts {
+fn give_all(version: u32, trace: &[u8]) -> Counts {
     let fresh = session::start(version);
     let mut number = fresh.version;
     let mut phase = fresh.phase;
@@ -134,23 +111,11 @@ fn give_all(version: u32, trace: &[u8], is_made: bool) -> Counts {
             &trace[start..end],
             given,
         );
-        accepted += note(given, answer, is_made);
+        accepted += note(given, answer);
         given += 1;
         at = end;
     }
     Counts { given, accepted }
-}
-
-// Whether a trace was made by hand: the names of those start with `made`, and no other name has these letters there.
-fn is_made(name: &[u8]) -> bool {
-    if name.len() < 4 {
-        return false;
-    }
-    if name[0] == b'm' {
-        name[2] == b'd'
-    } else {
-        false
-    }
 }
 
 fn digit(b: u8) -> u32 {
@@ -212,7 +177,7 @@ fn run_feed(name: &[u8], room: &mut [u8]) {
     }
     let n = read_all(file, room);
     libc::close(file);
-    let counts = give_all(version_of(name), front(room, n), is_made(name));
+    let counts = give_all(version_of(name), front(room, n));
     print_number(counts.given);
     print(b" messages, ");
     print_number(counts.accepted);

@@ -35,6 +35,9 @@ part-group-end c = omega arith
 run-lines-requires : tie.Need-run-lines-requires Inv-loop μ-loop
 run-lines-requires c κs = tt
 
+run-lines-requires-2 : tie.Need-run-lines-requires-2 Inv-loop μ-loop
+run-lines-requires-2 c κs = tt
+
 name-requires : tie.Need-name-requires Inv-loop μ-loop
 name-requires c κs = tt
 
@@ -46,7 +49,7 @@ print-tally-requires c κs = tt
 
 loop-less : tie.Need-loop-less Inv-loop μ-loop
 loop-less c =
-    let l = c .before .before .before .before .before .before .before .before in
+    let l = c .before .before .before .before .before .before .before .before .before .before .before .before in
     omega (arith, l .before .next-line .ensures .beyond (omega arith), l .next-group2 .ensures .onward (omega arith))
 
 loop-again : tie.Need-loop-again Inv-loop μ-loop
@@ -72,6 +75,7 @@ run-groups-spec =
     part-group-start
     part-group-end
     run-lines-requires
+    run-lines-requires-2
     name-requires
     print-requires
     print-tally-requires

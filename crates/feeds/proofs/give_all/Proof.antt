@@ -7,11 +7,11 @@ use Rattle.feeds.proofs.give_all.Statement.{statement}
 use Rattle.feeds.proofs.give_all.Tie as tie
 
 abbrev Inv-loop : tie.InvT-loop
-Inv-loop version trace is-made number₀ phase₀ current-xid₀ final-lsn₀ changed₀ stream-xids₀ stream-changed₀ owners₀ oids₀ tags₀ identities₀ columns₀ given₀ accepted₀ at₀ t22 number phase current-xid final-lsn changed stream-xids stream-changed owners oids tags identities columns given accepted at =
+Inv-loop version trace number₀ phase₀ current-xid₀ final-lsn₀ changed₀ stream-xids₀ stream-changed₀ owners₀ oids₀ tags₀ identities₀ columns₀ given₀ accepted₀ at₀ t22 number phase current-xid final-lsn changed stream-xids stream-changed owners oids tags identities columns given accepted at =
     (at ≤ length trace) × (given ≤ at) × (accepted ≤ given)
 
 abbrev μ-loop : tie.MeasureT-loop
-μ-loop version trace is-made number₀ phase₀ current-xid₀ final-lsn₀ changed₀ stream-xids₀ stream-changed₀ owners₀ oids₀ tags₀ identities₀ columns₀ given₀ accepted₀ at₀ t22 number phase current-xid final-lsn changed stream-xids stream-changed owners oids tags identities columns given accepted at =
+μ-loop version trace number₀ phase₀ current-xid₀ final-lsn₀ changed₀ stream-xids₀ stream-changed₀ owners₀ oids₀ tags₀ identities₀ columns₀ given₀ accepted₀ at₀ t22 number phase current-xid final-lsn changed stream-xids stream-changed owners oids tags identities columns given accepted at =
     length trace - at
 
 start-requires : tie.Need-start-requires Inv-loop μ-loop
