@@ -1,0 +1,4 @@
+pub mod Held
+pub mod Sameness
+pub mod Fitting
+pub mod FlatForm

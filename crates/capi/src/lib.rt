@@ -1,0 +1,4 @@
+mod flat;
+mod reading;
+mod unflat;
+mod writing;
