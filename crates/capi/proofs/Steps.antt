@@ -69,6 +69,7 @@ tuple-shown xs ps r k d e = rw (sym e, d) (go (stepped (column ∷ []) xs (posit
   where
     p : Position
     p = positionIn ps
+
     go : (s : Stepped) → (returned (ofTuple (tupleColumn xs p s)) ≡ numbersOf (sectionOf 0) xs p s) × (moved (ofTuple (tupleColumn xs p s)) (after s p) ps ≡ movedBy s ps)
     go over = (refl, refl)
     go (gives v e) = (refl, refl)
@@ -80,14 +81,19 @@ relation-shown xs ps r k d e = rw (sym e, d) (go (eqb (p .left) 0) (g .next))
   where
     p : Position
     p = positionIn ps
+
     g : Step
     g = readGroup columnFields xs (At (p .offset))
+
     at : Cursor
     at = readGroup (upTo 1 ∷ text ∷ any32 ∷ []) xs (At (p .offset)) .next
+
     m : ℕ
     m = numberField 4 0 0xFFFF_FFFF 4 xs at .value
+
     s : Bool → Cursor → Stepped
     s b c = cond b over (stood (g .values) c)
+
     go : (b : Bool) (c : Cursor) → (returned (ofRelation (relationColumn xs p (s b c))) ≡ numbersOf (sectionOf 2) xs p (s b c)) × (moved (ofRelation (relationColumn xs p (s b c))) (after (s b c) p) ps ≡ movedBy (s b c) ps)
     go true c = (refl, refl)
     go false (At e) = (rw (ofZ-toZ w32 m (record { fits = omega (arith, value-le 4 0 0xFFFF_FFFF 4 xs at) })), refl)
@@ -99,10 +105,13 @@ oid-shown xs ps r k d e = rw (sym e, d) (go (eqb (p .left) 0) (g .next))
   where
     p : Position
     p = positionIn ps
+
     g : Step
     g = readGroup (id ∷ []) xs (At (p .offset))
+
     s : Bool → Cursor → Stepped
     s b c = cond b over (stood (g .values) c)
+
     go : (b : Bool) (c : Cursor) → (returned (ofOid (truncatedRelation (s b c))) ≡ numbersOf (sectionOf 3) xs p (s b c)) × (moved (ofOid (truncatedRelation (s b c))) (after (s b c) p) ps ≡ movedBy (s b c) ps)
     go true c = (refl, refl)
     go false (At e) = (refl, refl)

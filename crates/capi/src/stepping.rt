@@ -23,8 +23,11 @@ use wire::Span;
 
 // The sections.
 const NEW_TUPLE: u32 = 0;
+
 const OLD_TUPLE: u32 = 1;
+
 const COLUMNS: u32 = 2;
+
 const OIDS: u32 = 3;
 
 // Nothing is left: no refusal.

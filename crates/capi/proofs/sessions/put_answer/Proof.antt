@@ -1,42 +1,31 @@
 use borrow.Author.Needs.{needs}
 use Rattle.capi.proofs.sessions.put_answer.Statement.{statement}
 use Rattle.capi.proofs.sessions.put_answer.Tie as tie
-use Rattle.capi.proofs.sessions.put_answer.Reads as reads
-use Rattle.capi.proofs.sessions.put_answer.Lts as lts
 
--- src/sessions.rt:29:13
 enum-told : tie.Need-enum-told
 enum-told c = search needs
 
--- src/sessions.rt:33:13
 enum-known-said : tie.Need-enum-known-said
 enum-known-said c = search needs
 
--- src/sessions.rt:37:32
 cast-t9 : tie.Need-cast-t9
 cast-t9 c = search needs
 
--- src/sessions.rt:37:49
 cast-t10 : tie.Need-cast-t10
 cast-t10 c = search needs
 
--- src/sessions.rt:40:27
 enum-known-said-2 : tie.Need-enum-known-said-2
 enum-known-said-2 c = search needs
 
--- src/sessions.rt:42:13
 cast-result : tie.Need-cast-result
 cast-result c = search needs
 
--- src/sessions.rt:24:1
 returns : tie.Need-returns
 returns c = rw (c .before .enum-told .given .1)
 
--- src/sessions.rt:24:1
 returns-2 : tie.Need-returns-2
 returns-2 c = rw (c .before .before .said .given .1)
 
--- src/sessions.rt:24:1
 returns-3 : tie.Need-returns-3
 returns-3 c = rw (c .before .before .said2 .given .1)
 

@@ -2,47 +2,32 @@ use Prim.Native.Nat.{_≤_}
 use native.Mathlib.Omega.{arith}
 use mathlib.Core.Path.{refl, _∙_}
 use borrow.Author.Tests.{ne-eqb}
-use borrow.Author.Needs.{needs}
 use Rattle.capi.specs.Stepping.{stepNumbers, movedOn}
 use Rattle.capi.proofs.Steps.{tuple-either}
 use Rattle.capi.proofs.stepping.kq_column_step.Statement.{statement}
 use Rattle.capi.proofs.stepping.kq_column_step.Tie as tie
-use Rattle.capi.proofs.stepping.kq_column_step.Reads as reads
-use Rattle.capi.proofs.stepping.kq_column_step.Lts as lts
-use Rattle.capi.proofs.stepping.oid_step.Reads as oid-step-reads
-use Rattle.capi.proofs.stepping.refused.Reads as refused-reads
-use Rattle.capi.proofs.stepping.relation_step.Reads as relation-step-reads
-use Rattle.capi.proofs.stepping.tuple_step.Reads as tuple-step-reads
 
--- src/stepping.rt:187:20
 relation-step-requires : tie.Need-relation-step-requires
-relation-step-requires c κs = search needs
+relation-step-requires c κs = tt
 
--- src/stepping.rt:188:17
 oid-step-requires : tie.Need-oid-step-requires
-oid-step-requires c κs = search needs
+oid-step-requires c κs = tt
 
--- src/stepping.rt:186:34
 tuple-step-requires : tie.Need-tuple-step-requires
-tuple-step-requires c κs = search needs
+tuple-step-requires c κs = tt
 
--- src/stepping.rt:189:14
 refused-requires : tie.Need-refused-requires
-refused-requires c κs = search needs
+refused-requires c κs = tt
 
--- src/stepping.rt:175:1
 returns : tie.Need-returns
 returns c = rw (c .before .before .before .match .keys1) (c .relation-step .ensures)
 
--- src/stepping.rt:175:1
 returns-2 : tie.Need-returns-2
 returns-2 c = rw (c .before .before .before .match .keys2) (c .oid-step .ensures)
 
--- src/stepping.rt:175:1
 returns-3 : tie.Need-returns-3
 returns-3 c = let e = tuple-either _ _ _ (c .before .before .before .if1 .taken) in (c .tuple-step .ensures .0 ∙ e .0, c .tuple-step .ensures .1 ∙ e .1)
 
--- src/stepping.rt:175:1
 returns-4 : tie.Need-returns-4
 unfolding stepNumbers movedOn
 returns-4 c =

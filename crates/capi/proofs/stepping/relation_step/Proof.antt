@@ -7,69 +7,49 @@ use borrow.Author.Needs.{needs}
 use Rattle.capi.proofs.Steps.{relation-shown}
 use Rattle.capi.proofs.stepping.relation_step.Statement.{statement}
 use Rattle.capi.proofs.stepping.relation_step.Tie as tie
-use Rattle.capi.proofs.stepping.relation_step.Reads as reads
-use Rattle.capi.proofs.stepping.relation_step.Lts as lts
-use Rattle.capi.proofs.stepping.modifier_bits.Reads as modifier-bits-reads
-use Rattle.capi.proofs.stepping.over.Reads as over-reads
-use Rattle.capi.proofs.stepping.refused.Reads as refused-reads
-use Rattle.columns.proofs.relation_step.Reads as relation-step-reads
 
--- src/stepping.rt:124:18
 element-copy-out-offset : tie.Need-element-copy-out-offset
 element-copy-out-offset c = search needs
 
--- src/stepping.rt:125:16
 element-copy-out-left : tie.Need-element-copy-out-left
 element-copy-out-left c = search needs
 
--- src/stepping.rt:126:41
 relation-step-requires : tie.Need-relation-step-requires
-relation-step-requires c κs = search needs
+relation-step-requires c κs = tt
 
--- src/stepping.rt:129:13
 enum-known-column : tie.Need-enum-known-column
 enum-known-column c = search needs
 
--- src/stepping.rt:136:17
 modifier-bits-requires : tie.Need-modifier-bits-requires
-modifier-bits-requires c κs = search needs
+modifier-bits-requires c κs = tt
 
--- src/stepping.rt:139:17
 cast-t27 : tie.Need-cast-t27
 cast-t27 c = search needs
 
--- src/stepping.rt:142:17
 cast-t30 : tie.Need-cast-t30
 cast-t30 c = search needs
 
--- src/stepping.rt:147:38
 enum-told : tie.Need-enum-told
 enum-told c = search needs
 
--- src/stepping.rt:147:33
 over-requires : tie.Need-over-requires
-over-requires c κs = search needs
+over-requires c κs = tt
 
--- src/stepping.rt:148:35
 enum-known-column-2 : tie.Need-enum-known-column-2
 enum-known-column-2 c = search needs
 
--- src/stepping.rt:148:55
 refused-requires : tie.Need-refused-requires
-refused-requires c κs = search needs
+refused-requires c κs = tt
 
--- src/stepping.rt:120:1
 returns : tie.Need-returns
 returns c =
     let z : ℤ = c .before .before .before .before .column .given .0 .1 .1 .1 .0 in
     let k : SFits w32 z = record { sfits = c .before .before .before .known-told .given .1 .1 .1 .0 .1 } in
     rw (c .before .before .modifier-bits .ensures, toZ-ofZ k) (relation-shown _ _ _ _ (c .before .before .before .before .before .before .before .relation-step .ensures) (c .before .before .before .before .column .given .1))
 
--- src/stepping.rt:120:1
 returns-2 : tie.Need-returns-2
 returns-2 c = let s = relation-shown _ _ _ _ (c .before .before .before .before .before .relation-step .ensures) (c .before .before .enum-told .given .1) in (c .over .ensures ∙ s .0, s .1)
 
--- src/stepping.rt:120:1
 returns-3 : tie.Need-returns-3
 returns-3 c = let s = relation-shown _ _ _ _ (c .before .before .before .before .before .before .relation-step .ensures) (c .before .before .before .column2 .given .1) in (c .refused .ensures ∙ s .0, s .1)
 

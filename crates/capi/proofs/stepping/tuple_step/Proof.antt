@@ -3,57 +3,40 @@ use borrow.Author.Needs.{needs}
 use Rattle.capi.proofs.Steps.{tuple-shown}
 use Rattle.capi.proofs.stepping.tuple_step.Statement.{statement}
 use Rattle.capi.proofs.stepping.tuple_step.Tie as tie
-use Rattle.capi.proofs.stepping.tuple_step.Reads as reads
-use Rattle.capi.proofs.stepping.tuple_step.Lts as lts
-use Rattle.capi.proofs.stepping.over.Reads as over-reads
-use Rattle.capi.proofs.stepping.refused.Reads as refused-reads
-use Rattle.columns.proofs.tuple_step.Reads as tuple-step-reads
 
--- src/stepping.rt:105:18
 element-copy-out-offset : tie.Need-element-copy-out-offset
 element-copy-out-offset c = search needs
 
--- src/stepping.rt:106:16
 element-copy-out-left : tie.Need-element-copy-out-left
 element-copy-out-left c = search needs
 
--- src/stepping.rt:107:38
 tuple-step-requires : tie.Need-tuple-step-requires
-tuple-step-requires c κs = search needs
+tuple-step-requires c κs = tt
 
--- src/stepping.rt:110:13
 enum-known-column : tie.Need-enum-known-column
 enum-known-column c = search needs
 
--- src/stepping.rt:116:21
 cast-t23 : tie.Need-cast-t23
 cast-t23 c = search needs
 
--- src/stepping.rt:119:30
 enum-told : tie.Need-enum-told
 enum-told c = search needs
 
--- src/stepping.rt:119:25
 over-requires : tie.Need-over-requires
-over-requires c κs = search needs
+over-requires c κs = tt
 
--- src/stepping.rt:120:27
 enum-known-column-2 : tie.Need-enum-known-column-2
 enum-known-column-2 c = search needs
 
--- src/stepping.rt:120:47
 refused-requires : tie.Need-refused-requires
-refused-requires c κs = search needs
+refused-requires c κs = tt
 
--- src/stepping.rt:101:1
 returns : tie.Need-returns
 returns c = tuple-shown _ _ _ _ (c .before .before .before .before .before .before .tuple-step .ensures) (c .before .before .before .column .given .1)
 
--- src/stepping.rt:101:1
 returns-2 : tie.Need-returns-2
 returns-2 c = let s = tuple-shown _ _ _ _ (c .before .before .before .before .before .tuple-step .ensures) (c .before .before .enum-told .given .1) in (c .over .ensures ∙ s .0, s .1)
 
--- src/stepping.rt:101:1
 returns-3 : tie.Need-returns-3
 returns-3 c = let s = tuple-shown _ _ _ _ (c .before .before .before .before .before .before .tuple-step .ensures) (c .before .before .before .column2 .given .1) in (c .refused .ensures ∙ s .0, s .1)
 
