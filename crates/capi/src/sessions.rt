@@ -7,6 +7,7 @@ use message::Version;
 use session::Answer;
 use session::Session;
 
+// Starts a session of a version, any number.
 #[no_mangle]
 pub extern "C" fn kq_session_start(session: &mut Session, version: u32)
     ensures { λ _. ⌜ now (session .exit) ≡ startOf (named version) ⌝ }
@@ -14,6 +15,7 @@ pub extern "C" fn kq_session_start(session: &mut Session, version: u32)
     session::start_in(session, version)
 }
 
+// Starts a session with no version named.
 #[no_mangle]
 pub extern "C" fn kq_session_start_default(session: &mut Session)
     ensures { λ _. ⌜ now (session .exit) ≡ startOf unnamed ⌝ }
@@ -44,6 +46,7 @@ fn put_answer(said: Answer, answer: &mut [u64; 4]) -> u32
     }
 }
 
+// Gives a session one message, with a tag.
 #[no_mangle]
 pub extern "C" fn kq_session_give(
     session: &mut Session,

@@ -49,6 +49,7 @@ fn section_start(version: Version, in_block: bool, bytes: &[u8], section: u32) -
     }
 }
 
+// Reads a message and starts stepping through one of its sections.
 #[no_mangle]
 pub extern "C" fn kq_column_start(
     version: u32,
@@ -171,6 +172,7 @@ fn oid_step<'a>(bytes: &[u8], position: &'a mut [u64; 2], out: &'a mut [u64; 5])
     }
 }
 
+// Steps past what stands at a position, which may be made up.
 #[no_mangle]
 pub extern "C" fn kq_column_step(
     section: u32,

@@ -2,7 +2,7 @@ use mathlib.Core.Path.{sym, ap, subst, _∙_}
 use lib.Bits.{and-mask}
 use Prim.Native.Nat.{ℕ, _%_, _^_}
 use lib.IntN.{ℤ}
-use mir.Syntax.{w32, w64}
+use mir.Syntax.{w64}
 use mir.Val.{SFits, toZ, ofZ}
 use mir.Facts.{sfits-widen, toZ-ofZ}
 use Rattle.capi.proofs.Low.{low-bits}
