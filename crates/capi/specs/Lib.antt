@@ -1,1 +1,4 @@
 pub mod Flat
+pub mod Filled
+pub mod Stepping
+pub mod Sessions

@@ -1,4 +1,6 @@
 mod flat;
 mod reading;
+mod sessions;
+mod stepping;
 mod unflat;
 mod writing;
