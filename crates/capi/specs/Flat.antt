@@ -2,6 +2,7 @@
 use Prim.Native.Nat.{ℕ, zero, suc, _+_, _^_}
 use mathlib.Core.List.{List, [], _∷_, _++_}
 use mathlib.Core.Bool.{Bool, true, not, cond, _&&_}
+use mathlib.Core.Path.{_≡_}
 use mathlib.Core.Option.{Option, none, some}
 use lib.Dec.{eqb, ltb}
 use lib.ListN.{getD, length}
@@ -15,6 +16,7 @@ use Rattle.message.specs.Encode.{kindOfMessage, partsOf}
 use Rattle.message.specs.Write.{Writing, refused, writeMessage}
 use Rattle.writer.specs.declared.Written.{Written}
 use Rattle.writer.specs.declared.Written.the-variants as written
+use Rattle.writer.specs.Answer.{answerOf, outputOf}
 use Rattle.capi.specs.declared.unflat.Found.{Found}
 use Rattle.capi.specs.declared.unflat.Found.the-variants as found
 
@@ -134,3 +136,9 @@ writtenNumber (written.Refused r) = r .number
 abbrev pub writtenResult : Written → ℕ
 writtenResult (written.Length n) = n
 writtenResult (written.Refused r) = r .offset
+
+-- the number that is returned, the result, and the output after it
+pub record Writes (w : Writing) (out : List ℕ) (returned result : ℕ) (out′ : List ℕ) : Type 0 where
+  pub number : returned ≡ writtenNumber (answerOf w out)
+  pub told : result ≡ writtenResult (answerOf w out)
+  pub output : out′ ≡ outputOf w out

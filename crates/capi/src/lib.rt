@@ -1,4 +1,4 @@
 mod flat;
-mod reading;
+pub mod reading;
 mod unflat;
-mod writing;
+pub mod writing;
