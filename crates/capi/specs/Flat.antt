@@ -1,7 +1,8 @@
 -- The flat form of a message: a row of 16 numbers. What reading answers as a row, and the message whose flat form a row is.
 use Prim.Native.Nat.{ℕ, zero, suc, _+_, _^_}
 use mathlib.Core.List.{List, [], _∷_, _++_}
-use mathlib.Core.Bool.{Bool, true, not, cond, _&&_}
+use mathlib.Core.Bool.{Bool, true, cond, _&&_}
+use mathlib.Core.Path.{_≡_}
 use mathlib.Core.Option.{Option, none, some}
 use lib.Dec.{eqb, ltb}
 use lib.ListN.{getD, length}
@@ -15,19 +16,12 @@ use Rattle.message.specs.Encode.{kindOfMessage, partsOf}
 use Rattle.message.specs.Write.{Writing, refused, writeMessage}
 use Rattle.writer.specs.declared.Written.{Written}
 use Rattle.writer.specs.declared.Written.the-variants as written
+use Rattle.writer.specs.Answer.{answerOf, outputOf}
+use Rattle.capi.specs.Filled.{padded, inside}
 use Rattle.capi.specs.declared.unflat.Found.{Found}
 use Rattle.capi.specs.declared.unflat.Found.the-variants as found
 
--- 0 is outside a stream block, and any other number inside one
-abbrev pub inside : ℕ → Bool
-inside n = not (eqb n 0)
-
--- n numbers: these, and zeros behind them
-abbrev pub padded : ℕ → List ℕ → List ℕ
-padded zero ns = []
-padded (suc k) [] = 0 ∷ padded k []
-padded (suc k) (n ∷ ns) = n ∷ padded k ns
-
+-- 16 numbers
 abbrev pub row : List ℕ → List ℕ
 row ns = padded 16 ns
 
@@ -134,3 +128,9 @@ writtenNumber (written.Refused r) = r .number
 abbrev pub writtenResult : Written → ℕ
 writtenResult (written.Length n) = n
 writtenResult (written.Refused r) = r .offset
+
+-- the number that is returned, the result, and the output after it
+pub record Writes (w : Writing) (out : List ℕ) (returned result : ℕ) (out′ : List ℕ) : Type 0 where
+  pub number : returned ≡ writtenNumber (answerOf w out)
+  pub told : result ≡ writtenResult (answerOf w out)
+  pub output : out′ ≡ outputOf w out

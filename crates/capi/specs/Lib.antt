@@ -1,4 +1,4 @@
-pub mod Flat
 pub mod Filled
+pub mod Flat
 pub mod Stepping
 pub mod Sessions

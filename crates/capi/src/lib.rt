@@ -1,6 +1,6 @@
 mod flat;
-mod reading;
-mod sessions;
-mod stepping;
+pub mod reading;
+pub mod sessions;
+pub mod stepping;
 mod unflat;
-mod writing;
+pub mod writing;

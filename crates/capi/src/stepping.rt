@@ -1,12 +1,10 @@
 // Stepping through a tuple, a Relation's columns and a Truncate's OIDs.
 ghost use mathlib.Core.Path.{_≡_};
-ghost use mathlib.Core.Bool.{not};
 ghost use mathlib.Core.List.{[], _∷_};
-ghost use lib.Dec.{eqb};
 ghost use mir.Syntax.{w32};
 ghost use mir.Val.{ofZ};
 ghost use Rattle.message.specs.Messages.{readMessage};
-ghost use Rattle.capi.specs.Filled.{filled, padded};
+ghost use Rattle.capi.specs.Filled.{filled, padded, inside};
 ghost use Rattle.capi.specs.Stepping.{sectionOf, sectionStart, startNumbers, stepNumbers, movedOn};
 use columns::Column;
 use columns::OidStep;
@@ -58,7 +56,7 @@ pub extern "C" fn kq_column_start(
     section: u32,
     position: &mut [u64; 2],
 ) -> u32
-    ensures { λ r. ⌜ filled r (now (position .exit)) ≡ startNumbers (sectionStart (sectionOf section) (now (bytes .entry)) (readMessage (record { number = version }) (not (eqb «in_block» 0)) (now (bytes .entry)))) ⌝ }
+    ensures { λ r. ⌜ filled r (now (position .exit)) ≡ startNumbers (sectionStart (sectionOf section) (now (bytes .entry)) (readMessage (record { number = version }) (inside «in_block») (now (bytes .entry)))) ⌝ }
 {
     let started = section_start(Version { number: version }, in_block != 0, bytes, section);
     match started {

@@ -1,6 +1,5 @@
-ghost use mathlib.Core.Path.{_≡_};
-ghost use Rattle.writer.specs.Answer.{Settles, answerOf, outputOf};
-ghost use Rattle.capi.specs.Flat.{writeFlat, writtenNumber, writtenResult};
+ghost use Rattle.writer.specs.Answer.{Settles};
+ghost use Rattle.capi.specs.Flat.{writeFlat, Writes};
 use crate::unflat;
 use crate::unflat::Found;
 use message::Version;
@@ -32,7 +31,7 @@ pub extern "C" fn kq_write(
     out: &mut [u8],
     result: &mut u64,
 ) -> u32
-    ensures { λ r. ⌜ (r ≡ writtenNumber (answerOf (writeFlat version «in_block» (now (fields .entry)) (now (source .entry))) (now (out .entry)))) × (now (result .exit) ≡ writtenResult (answerOf (writeFlat version «in_block» (now (fields .entry)) (now (source .entry))) (now (out .entry)))) × (now (out .exit) ≡ outputOf (writeFlat version «in_block» (now (fields .entry)) (now (source .entry))) (now (out .entry))) ⌝ }
+    ensures { λ r. ⌜ Writes (writeFlat version «in_block» (now (fields .entry)) (now (source .entry))) (now (out .entry)) r (now (result .exit)) (now (out .exit)) ⌝ }
 {
     match write_row(version, in_block, fields, source, out) {
         Written::Length(n) => {

@@ -1,6 +1,5 @@
 use mathlib.Core.Path.{sym, _∙_}
 use borrow.Author.Tests.{ne-eqb}
-use borrow.Author.Needs.{needs}
 use Rattle.capi.proofs.unflat.old_tuple.Statement.{statement}
 use Rattle.capi.proofs.unflat.old_tuple.Tie as tie
 

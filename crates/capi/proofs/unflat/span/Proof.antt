@@ -1,4 +1,3 @@
-use borrow.Author.Needs.{needs}
 use Rattle.capi.proofs.unflat.span.Statement.{statement}
 use Rattle.capi.proofs.unflat.span.Tie as tie
 

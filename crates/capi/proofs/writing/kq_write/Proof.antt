@@ -22,7 +22,7 @@ returns : tie.Need-returns
 returns c =
     let w = c .before .before .before .before .before .write-row .ensures in
     let e = sym (w .answer) ∙ c .before .n .given .1 in
-    (rw e, rw e, w .output)
+    record { number = rw e; told = rw e; output = w .output }
 
 same-length-2 : tie.Need-same-length-2
 same-length-2 c = search needs
@@ -31,7 +31,7 @@ returns-2 : tie.Need-returns-2
 returns-2 c =
     let w = c .before .before .before .before .before .before .write-row .ensures in
     let e = sym (w .answer) ∙ c .before .before .refusal .given .1 in
-    (rw e, rw e, w .output)
+    record { number = rw e; told = rw e; output = w .output }
 
 pub kq-write-spec : {M : Type 1} → statement M
 kq-write-spec =
