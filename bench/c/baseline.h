@@ -35,14 +35,8 @@ typedef struct {
 } message;
 
 /* Each gives true, or false and why. */
-bool read_message(uint32_t version, bool in_block, const uint8_t *bytes, size_t length, message *m, refusal *why);
-bool write_message(uint32_t version, bool in_block, const message *m, uint8_t *out, size_t room, size_t *length, refusal *why);
-
-/* One column of a tuple: its letter, and its value where it has one. */
-typedef struct { uint8_t letter; span value; } column;
-typedef struct { const uint8_t *at; uint16_t left; } column_cursor;
-column_cursor columns_of(tuple t);
-bool next_column(column_cursor *c, column *out);
+bool c_read(uint32_t version, bool in_block, const uint8_t *bytes, size_t length, message *m, refusal *why);
+bool c_write(uint32_t version, bool in_block, const message *m, uint8_t *out, size_t room, size_t *length, refusal *why);
 
 typedef enum { IDLE, TRANSACTION_OPEN, BLOCK } place;
 typedef struct { uint64_t tag; uint8_t identity; uint16_t columns; } announcement;
@@ -61,7 +55,7 @@ typedef struct {
 } session;
 
 typedef struct { bool change; announcement of; } answer;
-void session_start(session *s, uint32_t version);
-bool session_give(session *s, const uint8_t *bytes, size_t length, uint64_t tag, answer *a, refusal *why);
+void c_session_start(session *s, uint32_t version);
+bool c_session_give(session *s, const uint8_t *bytes, size_t length, uint64_t tag, answer *a, refusal *why);
 
 #endif

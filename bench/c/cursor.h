@@ -142,6 +142,27 @@ static inline bool relation_oids(cursor *c, uint32_t n, span *oids)
     return true;
 }
 
+/* Stepping through a tuple that was read: a column's letter, and its value where it has one. */
+typedef struct { const uint8_t *at; uint16_t left; } column_cursor;
+typedef struct { uint8_t letter; span value; } column;
+
+static inline column_cursor columns_of(tuple t)
+{
+    return (column_cursor){t.bytes.at + 2, t.count};
+}
+
+static inline bool next_column(column_cursor *c, column *out)
+{
+    if (c->left == 0) return false;
+    c->left--;
+    *out = (column){*c->at++, {0, 0}};
+    if (out->letter == 't' || out->letter == 'b') {
+        out->value = (span){c->at + 4, load32(c->at)};
+        c->at += 4 + out->value.length;
+    }
+    return true;
+}
+
 static inline bool allows(uint32_t version, bool in_block)
 {
     return version == 2 || (version == 1 && !in_block);

@@ -76,27 +76,10 @@ static bool whole(cursor *c, uint32_t version, bool in_block, message *m)
     return fields(c, in_block, m) && (c->at == c->length || refuse(c, LEFT_OVER, c->at));
 }
 
-bool read_message(uint32_t version, bool in_block, const uint8_t *bytes, size_t length, message *m, refusal *why)
+bool c_read(uint32_t version, bool in_block, const uint8_t *bytes, size_t length, message *m, refusal *why)
 {
     cursor c = {bytes, length, 0, {0, 0}};
     if (whole(&c, version, in_block, m)) return true;
     *why = c.why;
     return false;
-}
-
-column_cursor columns_of(tuple t)
-{
-    return (column_cursor){t.bytes.at + 2, t.count};
-}
-
-bool next_column(column_cursor *c, column *out)
-{
-    if (c->left == 0) return false;
-    c->left--;
-    *out = (column){*c->at++, {0, 0}};
-    if (out->letter == 't' || out->letter == 'b') {
-        out->value = (span){c->at + 4, load32(c->at)};
-        c->at += 4 + out->value.length;
-    }
-    return true;
 }

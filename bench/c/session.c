@@ -1,7 +1,7 @@
 /* The session: the open streamed transactions and the live announcements in two small packed arrays. */
 #include "cursor.h"
 
-void session_start(session *s, uint32_t version)
+void c_session_start(session *s, uint32_t version)
 {
     memset(s, 0, sizeof *s);
     s->version = version;
@@ -183,10 +183,10 @@ static uint32_t judged(session *s, const message *m, uint64_t tag, answer *to)
     }
 }
 
-bool session_give(session *s, const uint8_t *bytes, size_t length, uint64_t tag, answer *to, refusal *why)
+bool c_session_give(session *s, const uint8_t *bytes, size_t length, uint64_t tag, answer *to, refusal *why)
 {
     message m;
-    if (!read_message(s->version, s->place == BLOCK, bytes, length, &m, why)) return false;
+    if (!c_read(s->version, s->place == BLOCK, bytes, length, &m, why)) return false;
     *to = (answer){0};
     uint32_t number = judged(s, &m, tag, to);
     if (number) *why = (refusal){number, 0};

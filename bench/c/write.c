@@ -152,7 +152,7 @@ static bool measured(measure *l, uint32_t version, bool in_block, const message 
     return fields_measured(l, in_block, m) && (l->length <= room || deny(l, OUTPUT, 0));
 }
 
-bool write_message(uint32_t version, bool in_block, const message *m, uint8_t *out, size_t room, size_t *length, refusal *why)
+bool c_write(uint32_t version, bool in_block, const message *m, uint8_t *out, size_t room, size_t *length, refusal *why)
 {
     measure l = {1, {0, 0}};
     if (!measured(&l, version, in_block, m, room)) {
