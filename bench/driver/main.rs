@@ -1,4 +1,4 @@
-//! Measures Kitsoriqu beside an idiomatic Rust decoder and a hand-written C decoder, on the messages of a trace: `driver TRACE`.
+//! Measures Kitsoriqu beside an idiomatic Rust decoder and a hand-written C decoder, on the messages of a trace: `driver TRACE [ROUNDS]`.
 //! First all three must agree on every message.
 
 #[path = "../../bindings/rust/src/ffi.rs"]
@@ -22,7 +22,9 @@ use feed::Feed;
 const TABLES: usize = 250;
 
 fn main() {
-    let path = std::env::args().nth(1).expect("usage: driver TRACE");
+    let mut words = std::env::args().skip(1);
+    let path = words.next().expect("usage: driver TRACE [ROUNDS]");
+    let rounds = words.next().map_or(101, |word| word.parse().expect("ROUNDS is a number"));
     let bytes = std::fs::read(&path).unwrap_or_else(|error| panic!("{path}: {error}"));
     let version = trace::version(&path).expect("a trace is named NAME.vVERSION.trace");
     let messages = trace::messages(&bytes).unwrap_or_else(|offset| panic!("{path}: no record at {offset}"));
@@ -35,5 +37,5 @@ fn main() {
     check::agree(&mut contenders, &feed);
     check::agree(&mut contenders, &spread);
     println!("all agree on every message, and on two damaged copies of each\n");
-    measure::measure(&mut contenders, &feed, &spread, TABLES);
+    measure::measure(&mut contenders, &feed, &spread, TABLES, rounds);
 }

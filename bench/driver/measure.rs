@@ -4,8 +4,6 @@ use crate::feed::Feed;
 use std::hint::black_box;
 use std::time::{Duration, Instant};
 
-const ROUNDS: usize = 101;
-
 type Contenders<'a> = Vec<Box<dyn Contender<'a> + 'a>>;
 
 /// One task on one feed, as a run of one contender: how long it took, and what it added up.
@@ -94,7 +92,7 @@ fn print_line(name: &str, feed: &Feed, [least, median]: [f64; 2], ratio: &str) {
     println!("  {name:<12}{:>9.1}{:>9.1}{rate:>9.0}{ratio}", least / messages, median / messages);
 }
 
-pub fn measure<'a>(contenders: &mut Contenders<'a>, feed: &Feed<'a>, spread: &Feed<'a>, tables: usize) {
+pub fn measure<'a>(contenders: &mut Contenders<'a>, feed: &Feed<'a>, spread: &Feed<'a>, tables: usize, rounds: usize) {
     let task = |title: &str, feed, run| Task { title: title.into(), feed, run };
     let tasks = [
         task("reading", feed, reading as fn(&mut dyn Contender<'a>, &Feed<'a>) -> _),
@@ -105,7 +103,7 @@ pub fn measure<'a>(contenders: &mut Contenders<'a>, feed: &Feed<'a>, spread: &Fe
     ];
     let mut times = vec![vec![vec![]; contenders.len()]; tasks.len()];
     let mut copies = vec![];
-    for _ in 0..ROUNDS {
+    for _ in 0..rounds {
         for (task, times) in tasks.iter().zip(&mut times) {
             let mut first = None;
             for (contender, times) in contenders.iter_mut().zip(times) {
@@ -117,8 +115,9 @@ pub fn measure<'a>(contenders: &mut Contenders<'a>, feed: &Feed<'a>, spread: &Fe
         copies.push(copying(feed));
     }
 
-    println!("{ROUNDS} rounds in turns      ns/message         MB/s    ratio to Rust");
-    println!("                 least   median            least   median");
+    println!("{rounds} rounds, in turns");
+    println!("                    ns/message            MB/s     ratio to Rust");
+    println!("                 least   median                   least   median");
     for (task, times) in tasks.iter().zip(times) {
         println!("{}", task.title);
         let results: Vec<_> = times.into_iter().map(least_and_median).collect();

@@ -1,5 +1,5 @@
-//! The recorded and made feeds of `crates/feeds`, each given to a fresh session: the answers are those that its program prints.
-use kitsoriqu::{read, write, Answer, Decoded, Message, Session};
+//! The recorded feeds of `crates/feeds`, each given to a fresh session: the answers are those that its program prints.
+use kitsoriqu::{read, write, Decoded, Message, Session};
 use std::fmt::Write;
 use std::fs;
 use std::path::Path;
@@ -9,20 +9,14 @@ mod trace;
 
 const FEEDS: &str = concat!(env!("CARGO_MANIFEST_DIR"), "/../../crates/feeds");
 
-/// Gives each message to a session, tagged with its index; prints each refusal, and for a made trace what each change was answered.
-fn answers(version: u32, messages: &[&[u8]], is_made: bool) -> String {
+/// Gives each message to a session, tagged with its index, and prints each refusal and how many were accepted.
+fn answers(version: u32, messages: &[&[u8]]) -> String {
     let mut session = Session::new(version);
     let mut lines = String::new();
     let mut accepted = 0;
     for (index, bytes) in messages.iter().enumerate() {
         match session.give(bytes, index as u64) {
-            Ok(answer) => {
-                accepted += 1;
-                if let (true, Answer::Change { tag, identity, columns }) = (is_made, answer) {
-                    let letter = identity.letter() as char;
-                    writeln!(lines, "{index}: announcement {tag}, identity {letter}, columns {columns}").unwrap();
-                }
-            }
+            Ok(_) => accepted += 1,
             Err(refusal) => writeln!(lines, "{index}: {} at {}", refusal.number, refusal.offset).unwrap(),
         }
     }
@@ -59,7 +53,7 @@ fn recorded_feeds() {
         let version = trace::version(name).unwrap();
         back(version, &messages);
         writeln!(printed, "{name}").unwrap();
-        printed += &answers(version, &messages, name.starts_with("made_"));
+        printed += &answers(version, &messages);
     }
     assert_eq!(printed, fs::read_to_string(Path::new(FEEDS).join("stdout")).unwrap());
 }

@@ -163,13 +163,18 @@ fn from_made_up_positions() {
     tally.has_seen(&[0, 2, 4, ffi::OVER], 1000);
 }
 
-/// A section that there is not is one that no message has.
+/// A number that is no section is refused before all else, by both functions.
 #[test]
 fn unknown_sections() {
     let bytes = b"I\0\0\0\x05N\0\x02nt\0\0\0\x01a";
     for section in [4, 5, 255, u32::MAX] {
-        let mut position = [9, 9];
-        assert_eq!((ffi::column_start(1, false, bytes, section, &mut position), position), (4, [0, 0]));
-        assert_eq!((ffi::column_start(1, false, &bytes[..8], section, &mut position), position), (2, [8, 0]));
+        for length in [bytes.len(), 8] {
+            let mut position = [9, 9];
+            assert_eq!((ffi::column_start(1, false, &bytes[..length], section, &mut position), position), (4, [0, 0]));
+        }
+        for left in [0, 1] {
+            let (mut position, mut out) = ([8, left], [9; 5]);
+            assert_eq!((ffi::column_step(section, bytes, &mut position, &mut out), position, out), (4, [8, left], [0; 5]));
+        }
     }
 }
