@@ -7,7 +7,7 @@ pub struct Span {
     pub length: usize,
 }
 
-/// The flat form of a message, which is what [`write`] takes: its kind, its fields in the order of its layout, and zeros to 16 numbers.
+/// The flat form of a message, which is what [`write()`] takes: its kind, its fields in the order of its layout, and zeros to 16 numbers.
 ///
 /// A message that was read has one, [`Decoded::fields`](crate::Decoded::fields), with its bytes as source. The functions below describe
 /// a message from scratch: its texts and content by their [`Span`]s in the source, and a tuple (its count included), a Relation's
