@@ -90,7 +90,8 @@ uint32_t kq_write(uint32_t version, uint32_t in_block, const uint64_t fields[KQ_
 enum { KQ_NEW_TUPLE = 0, KQ_OLD_TUPLE = 1, KQ_COLUMNS = 2, KQ_OIDS = 3 };
 
 /* Reads the whole message and starts stepping through one of its sections. 0: position is the offset of the first column and how many
- * are left. Else a refusal (the message's own; KQ_FIELD at 0 for a section that it lacks): position is the offset and 0. */
+ * are left. Else a refusal (KQ_FIELD at 0 for a number that is no section, before all else; the message's own; KQ_FIELD at 0 for a
+ * section that it lacks): position is the offset and 0. */
 uint32_t kq_column_start(uint32_t version, uint32_t in_block, const uint8_t *bytes, size_t len, uint32_t section, uint64_t position[2]);
 
 /* Steps past what stands at a position, which may be made up.
@@ -98,8 +99,8 @@ uint32_t kq_column_start(uint32_t version, uint32_t in_block, const uint8_t *byt
  *     of a tuple     the column's letter ('n' null, 'u' unchanged, 't' text, 'b' binary), its value's start and length (or 0 and 0)
  *     of KQ_COLUMNS  the key flag, the name's start and length, the type OID, the 32 bits of the type modifier
  *     of KQ_OIDS     the relation OID
- * and zeros behind. KQ_OVER: none are left; out is zeros. Else a refusal: out is its offset and zeros. Unless 0 is returned, position
- * is as it was. */
+ * and zeros behind. KQ_OVER: none are left; out is zeros. Else a refusal (KQ_FIELD at 0 for a number that is no section): out is its
+ * offset and zeros. Unless 0 is returned, position is as it was. */
 #define KQ_STEP 5
 uint32_t kq_column_step(uint32_t section, const uint8_t *bytes, size_t len, uint64_t position[2], uint64_t out[KQ_STEP]);
 

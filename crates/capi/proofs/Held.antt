@@ -1,0 +1,28 @@
+-- A number in its bytes. Assumes nothing.
+use Prim.Native.Nat.{ℕ, zero, suc, _^_, _<_, _≤_}
+use mathlib.Core.Bool.{Bool, true, false, cond}
+use mathlib.Core.Path.{_≡_, refl}
+use native.Mathlib.Omega.{arith}
+use borrow.Author.Tests.{lt-ltb, le-ltb, ltb-true}
+use lib.Dec.{ltb}
+use Rattle.capi.specs.Flat.{held}
+
+pub held-fits : (w n : ℕ) → n < 256 ^ w → held w n ≡ n
+unfolding held
+held-fits w n h = rw (lt-ltb n (256 ^ w) h)
+
+pub held-past : (w n : ℕ) → 256 ^ w ≤ n → held w n ≡ 0
+unfolding held
+held-past w n h = rw (le-ltb n (256 ^ w) h)
+
+some-room : (w : ℕ) → 0 < 256 ^ w
+some-room zero = omega arith
+some-room (suc w) = let h = some-room w in omega arith
+
+pub held-small : (w n : ℕ) → held w n < 256 ^ w
+unfolding held
+held-small w n = go (ltb n (256 ^ w)) refl
+  where
+    go : (t : Bool) → ltb n (256 ^ w) ≡ t → cond t n 0 < 256 ^ w
+    go true e = ltb-true n (256 ^ w) e
+    go false e = some-room w

@@ -1,0 +1,32 @@
+use borrow.Author.Needs.{needs}
+use Rattle.capi.proofs.unflat.origin_of.Statement.{statement}
+use Rattle.capi.proofs.unflat.origin_of.Tie as tie
+
+element-copy-out-long : tie.Need-element-copy-out-long
+element-copy-out-long c = search needs
+
+long-requires : tie.Need-long-requires
+long-requires c κs = tt
+
+element-copy-out-span : tie.Need-element-copy-out-span
+element-copy-out-span c = search needs
+
+element-copy-out-span-2 : tie.Need-element-copy-out-span-2
+element-copy-out-span-2 c = search needs
+
+span-requires : tie.Need-span-requires
+span-requires c κs = tt
+
+returns : tie.Need-returns
+returns c = rw (c .span .ensures, c .before .before .before .long .ensures)
+
+pub origin-of-spec : {M : Type 1} → statement M
+origin-of-spec =
+    tie.close
+    (tie.spec
+    element-copy-out-long
+    long-requires
+    element-copy-out-span
+    element-copy-out-span-2
+    span-requires
+    returns)

@@ -1,0 +1,4 @@
+pub mod Filled
+pub mod Flat
+pub mod Stepping
+pub mod Sessions

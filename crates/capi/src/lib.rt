@@ -1,0 +1,6 @@
+mod flat;
+pub mod reading;
+pub mod sessions;
+pub mod stepping;
+mod unflat;
+pub mod writing;
