@@ -31,7 +31,8 @@ fn main() {
     let spread = feed::spread(version, &messages, TABLES);
     let feed = Feed::new(version, messages);
     let spread = Feed::new(version, spread.iter().map(|message| &message[..]).collect());
-    println!("{path}: {} messages, {} bytes", feed.messages.len(), feed.bytes);
+    let name = std::path::Path::new(&path).file_name().unwrap().display();
+    println!("{name}: {} messages, {} bytes", feed.messages.len(), feed.bytes);
 
     let mut contenders: Vec<Box<dyn Contender>> = vec![Box::new(ours::Ours::new()), Box::new(rust::Rust::new()), Box::new(c::C::new())];
     check::agree(&mut contenders, &feed);
