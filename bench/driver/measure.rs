@@ -6,11 +6,13 @@ use std::time::{Duration, Instant};
 
 type Contenders<'a> = Vec<Box<dyn Contender<'a> + 'a>>;
 
-/// One task on one feed, as a run of one contender: how long it took, and what it added up.
+/// One contender's run on a feed: how long it took, and what it added up.
+type Run<'a> = fn(&mut dyn Contender<'a>, &Feed<'a>) -> (Duration, Totals);
+
 struct Task<'f, 'a> {
     title: String,
     feed: &'f Feed<'a>,
-    run: fn(&mut dyn Contender<'a>, &Feed<'a>) -> (Duration, Totals),
+    run: Run<'a>,
 }
 
 fn timed<T>(run: impl FnOnce() -> T) -> (Duration, T) {
@@ -92,15 +94,8 @@ fn print_line(name: &str, feed: &Feed, [least, median]: [f64; 2], ratio: &str) {
     println!("  {name:<12}{:>9.1}{:>9.1}{rate:>9.0}{ratio}", least / messages, median / messages);
 }
 
-pub fn measure<'a>(contenders: &mut Contenders<'a>, feed: &Feed<'a>, spread: &Feed<'a>, tables: usize, rounds: usize) {
-    let task = |title: &str, feed, run| Task { title: title.into(), feed, run };
-    let tasks = [
-        task("reading", feed, reading as fn(&mut dyn Contender<'a>, &Feed<'a>) -> _),
-        task("reading and session", feed, session),
-        task(&format!("reading and session, {tables} tables"), spread, session),
-        task("writing back", feed, writing),
-        task("stepping through all columns", feed, stepping),
-    ];
+/// Runs every task, in turns: the times of each contender at each, and those of copying.
+fn take_turns<'a>(contenders: &mut Contenders<'a>, tasks: &[Task<'_, 'a>], rounds: usize) -> (Vec<Vec<Vec<Duration>>>, Vec<Duration>) {
     let mut times = vec![vec![vec![]; contenders.len()]; tasks.len()];
     let mut copies = vec![];
     for _ in 0..rounds {
@@ -112,8 +107,22 @@ pub fn measure<'a>(contenders: &mut Contenders<'a>, feed: &Feed<'a>, spread: &Fe
                 assert_eq!(*first.get_or_insert(totals), totals, "{}: {}", task.title, contender.name());
             }
         }
-        copies.push(copying(feed));
+        copies.push(copying(tasks[0].feed));
     }
+    (times, copies)
+}
+
+pub fn measure<'a>(contenders: &mut Contenders<'a>, feed: &Feed<'a>, spread: &Feed<'a>, tables: usize, rounds: usize) {
+    let task = |title: &str, feed, run| Task { title: title.into(), feed, run };
+    let tasks = [
+        task("reading", feed, reading as Run<'a>),
+        task("reading and session", feed, session),
+        task(&format!("reading and session, {tables} tables"), spread, session),
+        task("writing back", feed, writing),
+        task("stepping through all columns", feed, stepping),
+    ];
+    let (times, copies) = take_turns(contenders, &tasks, rounds);
+    let rust = contenders.iter().position(|contender| contender.name() == "Rust").unwrap();
 
     println!("{rounds} rounds, in turns");
     println!("                    ns/message            MB/s     ratio to Rust");
@@ -121,7 +130,6 @@ pub fn measure<'a>(contenders: &mut Contenders<'a>, feed: &Feed<'a>, spread: &Fe
     for (task, times) in tasks.iter().zip(times) {
         println!("{}", task.title);
         let results: Vec<_> = times.into_iter().map(least_and_median).collect();
-        let rust = contenders.iter().position(|contender| contender.name() == "Rust").unwrap();
         for (contender, result) in contenders.iter().zip(&results) {
             let [least, median] = [0, 1].map(|i| result[i] / results[rust][i]);
             print_line(contender.name(), task.feed, *result, &format!("{least:>9.2}{median:>9.2}"));
