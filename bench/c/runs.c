@@ -1,0 +1,162 @@
+#include "runs.h"
+#include "cursor.h"
+
+/* Keeps the compiler from dropping what was computed. */
+static inline void keep(const void *p) { __asm__ volatile("" : : "r"(p) : "memory"); }
+
+static uint64_t start(const uint8_t *bytes, span s) { return (uint64_t)(s.at - bytes); }
+
+static void flatten(const message *m, const uint8_t *bytes, uint64_t out[16])
+{
+#define FLAT(...) do { const uint64_t numbers[] = {__VA_ARGS__}; memcpy(out, numbers, sizeof numbers); } while (0)
+#define SPAN(s) start(bytes, s), (s).length
+    memset(out, 0, 16 * sizeof *out);
+    switch (m->letter) {
+    case 'B': FLAT(1, m->begin.final_lsn, m->begin.time, m->xid); break;
+    case 'C': FLAT(2, 0, m->commit.commit_lsn, m->commit.end_lsn, m->commit.time); break;
+    case 'O': FLAT(3, m->origin.lsn, SPAN(m->origin.name)); break;
+    case 'R': FLAT(4, m->xid, m->relation.oid, SPAN(m->relation.namespace), SPAN(m->relation.name), m->relation.identity, m->relation.count,
+                   start(bytes, m->relation.columns)); break;
+    case 'Y': FLAT(5, m->xid, m->type.oid, SPAN(m->type.namespace), SPAN(m->type.name)); break;
+    case 'I': FLAT(6, m->xid, m->change.oid, start(bytes, m->change.new.bytes)); break;
+    case 'U': FLAT(7, m->xid, m->change.oid, m->change.old_letter, m->change.old_letter ? start(bytes, m->change.old.bytes) : 0,
+                   start(bytes, m->change.new.bytes)); break;
+    case 'D': FLAT(8, m->xid, m->change.oid, m->change.old_letter, start(bytes, m->change.old.bytes)); break;
+    case 'T': FLAT(9, m->xid, m->truncate.count, m->truncate.options, start(bytes, m->truncate.oids)); break;
+    case 'M': FLAT(10, m->xid, m->logical.flags, m->logical.lsn, SPAN(m->logical.prefix), SPAN(m->logical.content)); break;
+    case 'S': FLAT(11, m->xid, m->stream_start.first); break;
+    case 'E': FLAT(12); break;
+    case 'c': FLAT(13, m->xid, 0, m->commit.commit_lsn, m->commit.end_lsn, m->commit.time); break;
+    case 'A': FLAT(14, m->xid, m->stream_abort.sub_xid); break;
+    }
+}
+
+uint32_t c_check_read(uint32_t version, uint32_t in_block, const uint8_t *bytes, size_t length, uint64_t out[16])
+{
+    message m;
+    refusal why;
+    if (c_read(version, in_block, bytes, length, &m, &why)) {
+        flatten(&m, bytes, out);
+        return 0;
+    }
+    memset(out, 0, 16 * sizeof *out);
+    out[0] = why.offset;
+    return why.number;
+}
+
+uint32_t c_check_write_back(uint32_t version, uint32_t in_block, const uint8_t *bytes, size_t length, uint8_t *out, size_t room, uint64_t *result)
+{
+    message m;
+    refusal why = {0, 0};
+    size_t written = 0;
+    if (c_read(version, in_block, bytes, length, &m, &why)) c_write(version, in_block, &m, out, room, &written, &why);
+    *result = why.number ? why.offset : written;
+    return why.number;
+}
+
+static session checked;
+
+void c_check_session_start(uint32_t version) { c_session_start(&checked, version); }
+
+uint32_t c_check_session_give(const uint8_t *bytes, size_t length, uint64_t tag, uint64_t out[4])
+{
+    answer a;
+    refusal why;
+    memset(out, 0, 4 * sizeof *out);
+    if (!c_session_give(&checked, bytes, length, tag, &a, &why)) {
+        out[0] = why.offset;
+        return why.number;
+    }
+    if (a.change) FLAT(1, a.of.tag, a.of.identity, a.of.columns);
+    return 0;
+}
+
+static uint32_t block_after(uint32_t in_block, const message *m)
+{
+    return m->letter == 'S' ? 1 : m->letter == 'E' ? 0 : in_block;
+}
+
+void c_run_read(uint32_t version, const span *messages, size_t count, totals *t)
+{
+    message m;
+    refusal why;
+    uint32_t in_block = 0;
+    for (size_t i = 0; i < count; i++) {
+        if (c_read(version, in_block, messages[i].at, messages[i].length, &m, &why)) {
+            keep(&m);
+            t->accepted++;
+            in_block = block_after(in_block, &m);
+        } else {
+            keep(&why);
+            t->refused++;
+        }
+    }
+}
+
+void c_run_session(uint32_t version, const span *messages, size_t count, totals *t)
+{
+    session s;
+    answer a;
+    refusal why;
+    c_session_start(&s, version);
+    for (size_t i = 0; i < count; i++) {
+        if (c_session_give(&s, messages[i].at, messages[i].length, i, &a, &why)) {
+            t->accepted++;
+            if (a.change) t->sum += a.of.tag;
+        } else {
+            keep(&why);
+            t->refused++;
+        }
+    }
+}
+
+static message batch[BATCH];
+static uint32_t blocks[BATCH];
+static size_t filled;
+
+void c_fill(uint32_t version, uint32_t *in_block, const span *messages, size_t count)
+{
+    refusal why;
+    filled = 0;
+    for (size_t i = 0; i < count; i++) {
+        if (!c_read(version, *in_block, messages[i].at, messages[i].length, &batch[filled], &why)) continue;
+        blocks[filled] = *in_block;
+        *in_block = block_after(*in_block, &batch[filled++]);
+    }
+}
+
+void c_run_write(uint32_t version, uint8_t *out, size_t room, totals *t)
+{
+    refusal why;
+    size_t at = 0, length;
+    for (size_t i = 0; i < filled; i++) {
+        if (c_write(version, blocks[i], &batch[i], out + at, room - at, &length, &why)) {
+            t->accepted++;
+            at += length;
+        } else {
+            keep(&why);
+            t->refused++;
+        }
+    }
+    keep(out);
+    t->sum += at;
+}
+
+static void step_through(tuple of, totals *t)
+{
+    column c;
+    for (column_cursor at = columns_of(of); next_column(&at, &c);) {
+        t->accepted++;
+        t->sum += c.value.length;
+    }
+}
+
+void c_run_steps(totals *t)
+{
+    for (size_t i = 0; i < filled; i++) {
+        const message *m = &batch[i];
+        if (m->letter != 'I' && m->letter != 'U' && m->letter != 'D') continue;
+        if (m->change.old_letter) step_through(m->change.old, t);
+        if (m->letter != 'D') step_through(m->change.new, t);
+    }
+}

@@ -1,0 +1,24 @@
+/* What the driver calls of the C baseline. */
+#ifndef RUNS_H
+#define RUNS_H
+
+#include "baseline.h"
+
+/* CHECKING: one message. Each gives 0 or the refusal's number, and fills in as the function of the same name in kitsoriqu.h does. */
+uint32_t c_check_read(uint32_t version, uint32_t in_block, const uint8_t *bytes, size_t length, uint64_t out[16]);
+uint32_t c_check_write_back(uint32_t version, uint32_t in_block, const uint8_t *bytes, size_t length, uint8_t *out, size_t room, uint64_t *result);
+void c_check_session_start(uint32_t version);
+uint32_t c_check_session_give(const uint8_t *bytes, size_t length, uint64_t tag, uint64_t answer[4]);
+
+/* RUNS over a list of messages. */
+typedef struct { uint64_t accepted, refused, sum; } totals;
+void c_run_read(uint32_t version, const span *messages, size_t count, totals *t);
+void c_run_session(uint32_t version, const span *messages, size_t count, totals *t);
+
+/* Over a batch of messages that was read before: `c_fill` reads them, from inside a block where *in_block is set. */
+#define BATCH 128
+void c_fill(uint32_t version, uint32_t *in_block, const span *messages, size_t count);
+void c_run_write(uint32_t version, uint8_t *out, size_t room, totals *t);
+void c_run_steps(totals *t);
+
+#endif

@@ -1,0 +1,94 @@
+//! The C baseline; its loops are in C too (bench/c/runs.h).
+use crate::contender::{Contender, Refused, Totals};
+use crate::feed::{Feed, Span};
+
+pub struct C;
+
+impl C {
+    pub fn new() -> C {
+        C
+    }
+}
+
+extern "C" {
+    fn c_check_read(version: u32, in_block: u32, bytes: *const u8, length: usize, out: *mut u64) -> u32;
+    fn c_check_write_back(version: u32, in_block: u32, bytes: *const u8, length: usize, out: *mut u8, room: usize, result: *mut u64)
+        -> u32;
+    fn c_check_session_start(version: u32);
+    fn c_check_session_give(bytes: *const u8, length: usize, tag: u64, answer: *mut u64) -> u32;
+    fn c_run_read(version: u32, messages: *const Span, count: usize, totals: *mut Totals);
+    fn c_run_session(version: u32, messages: *const Span, count: usize, totals: *mut Totals);
+    fn c_fill(version: u32, in_block: *mut u32, messages: *const Span, count: usize);
+    fn c_run_write(version: u32, out: *mut u8, room: usize, totals: *mut Totals);
+    fn c_run_steps(totals: *mut Totals);
+}
+
+// Every pointer below is a slice's or an array's, with its length; the driver has one thread, and the messages outlive the run.
+impl<'a> Contender<'a> for C {
+    fn name(&self) -> &'static str {
+        "C"
+    }
+
+    fn flat(&self, version: u32, in_block: bool, bytes: &[u8]) -> Result<[u64; 16], Refused> {
+        let mut flat = [0; 16];
+        match unsafe { c_check_read(version, in_block.into(), bytes.as_ptr(), bytes.len(), flat.as_mut_ptr()) } {
+            0 => Ok(flat),
+            number => Err((number, flat[0])),
+        }
+    }
+
+    fn written(&self, version: u32, in_block: bool, bytes: &[u8], room: usize) -> Result<Vec<u8>, Refused> {
+        let mut out = vec![0; room];
+        let mut result = 0;
+        let (at, length) = (bytes.as_ptr(), bytes.len());
+        match unsafe { c_check_write_back(version, in_block.into(), at, length, out.as_mut_ptr(), room, &mut result) } {
+            0 => {
+                out.truncate(result as usize);
+                Ok(out)
+            }
+            number => Err((number, result)),
+        }
+    }
+
+    fn session_start(&mut self, version: u32) {
+        unsafe { c_check_session_start(version) }
+    }
+
+    fn session_give(&mut self, bytes: &[u8], tag: u64) -> Result<[u64; 4], Refused> {
+        let mut answer = [0; 4];
+        match unsafe { c_check_session_give(bytes.as_ptr(), bytes.len(), tag, answer.as_mut_ptr()) } {
+            0 => Ok(answer),
+            number => Err((number, answer[0])),
+        }
+    }
+
+    fn read(&self, feed: &Feed<'a>) -> Totals {
+        let mut totals = Totals::default();
+        unsafe { c_run_read(feed.version, feed.spans.as_ptr(), feed.spans.len(), &mut totals) };
+        totals
+    }
+
+    fn session(&self, feed: &Feed<'a>) -> Totals {
+        let mut totals = Totals::default();
+        unsafe { c_run_session(feed.version, feed.spans.as_ptr(), feed.spans.len(), &mut totals) };
+        totals
+    }
+
+    fn fill(&mut self, version: u32, in_block: &mut bool, _: &[&'a [u8]], spans: &[Span]) {
+        let mut block = u32::from(*in_block);
+        unsafe { c_fill(version, &mut block, spans.as_ptr(), spans.len()) };
+        *in_block = block != 0;
+    }
+
+    fn write(&self, version: u32, out: &mut [u8]) -> Totals {
+        let mut totals = Totals::default();
+        unsafe { c_run_write(version, out.as_mut_ptr(), out.len(), &mut totals) };
+        totals
+    }
+
+    fn steps(&self) -> Totals {
+        let mut totals = Totals::default();
+        unsafe { c_run_steps(&mut totals) };
+        totals
+    }
+}

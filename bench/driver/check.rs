@@ -1,0 +1,42 @@
+//! The contenders must agree: on what each message is, on each refusal, on what is written, and on each answer of a session.
+use crate::contender::{block_after, Contender};
+use crate::feed::Feed;
+
+pub fn agree<'a>(contenders: &mut [Box<dyn Contender<'a> + 'a>], feed: &Feed<'a>) {
+    let mut in_block = false;
+    contenders.iter_mut().for_each(|contender| contender.session_start(feed.version));
+    for (index, bytes) in feed.messages.iter().enumerate() {
+        let _ = same(contenders, index, |contender| contender.session_give(bytes, index as u64));
+        let read = same(contenders, index, |contender| contender.flat(feed.version, in_block, bytes));
+        let written = same(contenders, index, |contender| contender.written(feed.version, in_block, bytes, bytes.len()));
+        let _ = same(contenders, index, |contender| contender.written(feed.version, in_block, bytes, bytes.len().saturating_sub(1)));
+        if let Ok(flat) = read {
+            assert_eq!(written.as_deref(), Ok(*bytes), "message {index} is written back to the same bytes");
+            damaged(contenders, feed.version, in_block, index, bytes);
+            in_block = block_after(in_block, flat[0]);
+        }
+    }
+}
+
+/// A message cut short, and one with a byte changed.
+fn damaged<'a>(contenders: &mut [Box<dyn Contender<'a> + 'a>], version: u32, in_block: bool, index: usize, bytes: &[u8]) {
+    let cut = &bytes[..index % bytes.len()];
+    let _ = same(contenders, index, |contender| contender.flat(version, in_block, cut));
+    let mut changed = bytes.to_vec();
+    changed[index * 31 % bytes.len()] ^= 1 << (index % 8);
+    let _ = same(contenders, index, |contender| contender.flat(version, in_block, &changed));
+}
+
+/// What all contenders give.
+fn same<'a, T: PartialEq + std::fmt::Debug>(
+    contenders: &mut [Box<dyn Contender<'a> + 'a>],
+    index: usize,
+    mut give: impl FnMut(&mut Box<dyn Contender<'a> + 'a>) -> T,
+) -> T {
+    let first = give(&mut contenders[0]);
+    for contender in &mut contenders[1..] {
+        let other = give(contender);
+        assert_eq!(other, first, "{} on message {index}", contender.name());
+    }
+    first
+}

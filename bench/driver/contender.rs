@@ -1,0 +1,51 @@
+use crate::feed::{Feed, Span};
+
+/// A refusal's number and offset.
+pub type Refused = (u32, u64);
+
+/// How many messages are read ahead, to be written or stepped through.
+pub const BATCH: usize = 128;
+
+/// What a run adds up; all contenders must come to the same.
+#[repr(C)]
+#[derive(Clone, Copy, Debug, Default, PartialEq, Eq)]
+pub struct Totals {
+    /// Messages, or columns where those are stepped through.
+    pub accepted: u64,
+    pub refused: u64,
+    /// Of the tags that a session answers, the lengths that were written, or the lengths of values.
+    pub sum: u64,
+}
+
+/// One of those that are compared.
+pub trait Contender<'a> {
+    fn name(&self) -> &'static str;
+
+    // one message, for the check
+
+    /// Its flat form.
+    fn flat(&self, version: u32, in_block: bool, bytes: &[u8]) -> Result<[u64; 16], Refused>;
+    /// What it is written back to, in an output of so many bytes.
+    fn written(&self, version: u32, in_block: bool, bytes: &[u8], room: usize) -> Result<Vec<u8>, Refused>;
+    fn session_start(&mut self, version: u32);
+    /// 1, tag, identity and column count for a change; zeros for another message.
+    fn session_give(&mut self, bytes: &[u8], tag: u64) -> Result<[u64; 4], Refused>;
+
+    // what is measured
+
+    fn read(&self, feed: &Feed<'a>) -> Totals;
+    fn session(&self, feed: &Feed<'a>) -> Totals;
+    /// Reads a batch, to be written or stepped through (not measured).
+    fn fill(&mut self, version: u32, in_block: &mut bool, messages: &[&'a [u8]], spans: &[Span]);
+    fn write(&self, version: u32, out: &mut [u8]) -> Totals;
+    fn steps(&self) -> Totals;
+}
+
+/// Whether the next message stands in a block, after one whose flat form has this kind.
+pub fn block_after(in_block: bool, kind: u64) -> bool {
+    match kind {
+        11 => true,
+        12 => false,
+        _ => in_block,
+    }
+}

@@ -1,0 +1,191 @@
+//! The Rust baseline.
+use crate::contender::{Contender, Refused, Totals};
+use crate::feed::{Feed, Span};
+use baseline::{read_message, write_message, Column, Message, Refusal, Session, Tuple};
+use std::hint::black_box;
+
+pub struct Rust<'a> {
+    session: Session,
+    batch: Vec<(bool, Message<'a>)>,
+}
+
+impl Rust<'_> {
+    pub fn new() -> Self {
+        Rust { session: Session::new(1), batch: vec![] }
+    }
+}
+
+fn refused(refusal: Refusal) -> Refused {
+    (refusal.number.into(), refusal.offset as u64)
+}
+
+fn block_after(in_block: bool, message: &Message<'_>) -> bool {
+    match message {
+        Message::StreamStart { .. } => true,
+        Message::StreamStop => false,
+        _ => in_block,
+    }
+}
+
+/// The flat form that kitsoriqu.h describes: parts by where they start in the message's bytes.
+fn flat(message: &Message<'_>, bytes: &[u8]) -> [u64; 16] {
+    let start = |part: &[u8]| part.as_ptr() as u64 - bytes.as_ptr() as u64;
+    let length = |part: &[u8]| part.len() as u64;
+    let block = |xid: Option<u32>| u64::from(xid.unwrap_or(0));
+    let numbers = match *message {
+        Message::Begin { final_lsn, time, xid } => vec![1, final_lsn, time as u64, xid.into()],
+        Message::Commit { commit_lsn, end_lsn, time } => vec![2, 0, commit_lsn, end_lsn, time as u64],
+        Message::Origin { lsn, name } => vec![3, lsn, start(name), length(name)],
+        Message::Relation { xid, relation, namespace, name, identity, count, columns } => vec![
+            4,
+            block(xid),
+            relation.into(),
+            start(namespace),
+            length(namespace),
+            start(name),
+            length(name),
+            identity.into(),
+            count.into(),
+            start(columns),
+        ],
+        Message::Type { xid, oid, namespace, name } => {
+            vec![5, block(xid), oid.into(), start(namespace), length(namespace), start(name), length(name)]
+        }
+        Message::Insert { xid, relation, new } => vec![6, block(xid), relation.into(), start(new.bytes)],
+        Message::Update { xid, relation, old, new } => {
+            let (letter, old) = old.map_or((0, 0), |(letter, old)| (letter, start(old.bytes)));
+            vec![7, block(xid), relation.into(), letter.into(), old, start(new.bytes)]
+        }
+        Message::Delete { xid, relation, letter, old } => vec![8, block(xid), relation.into(), letter.into(), start(old.bytes)],
+        Message::Truncate { xid, options, relations } => {
+            vec![9, block(xid), length(relations) / 4, options.into(), start(relations)]
+        }
+        Message::Logical { xid, flags, lsn, prefix, content } => {
+            vec![10, block(xid), flags.into(), lsn, start(prefix), length(prefix), start(content), length(content)]
+        }
+        Message::StreamStart { xid, first } => vec![11, xid.into(), first.into()],
+        Message::StreamStop => vec![12],
+        Message::StreamCommit { xid, commit_lsn, end_lsn, time } => vec![13, xid.into(), 0, commit_lsn, end_lsn, time as u64],
+        Message::StreamAbort { xid, sub_xid } => vec![14, xid.into(), sub_xid.into()],
+    };
+    let mut flat = [0; 16];
+    flat[..numbers.len()].copy_from_slice(&numbers);
+    flat
+}
+
+fn step_through(tuple: Tuple<'_>, totals: &mut Totals) {
+    for column in tuple.columns() {
+        totals.accepted += 1;
+        if let Column::Text(value) | Column::Binary(value) = column {
+            totals.sum += value.len() as u64;
+        }
+    }
+}
+
+impl<'a> Contender<'a> for Rust<'a> {
+    fn name(&self) -> &'static str {
+        "Rust"
+    }
+
+    fn flat(&self, version: u32, in_block: bool, bytes: &[u8]) -> Result<[u64; 16], Refused> {
+        read_message(version, in_block, bytes).map(|message| flat(&message, bytes)).map_err(refused)
+    }
+
+    fn written(&self, version: u32, in_block: bool, bytes: &[u8], room: usize) -> Result<Vec<u8>, Refused> {
+        let message = read_message(version, in_block, bytes).map_err(refused)?;
+        let mut out = vec![0; room];
+        let length = write_message(version, in_block, &message, &mut out).map_err(refused)?;
+        out.truncate(length);
+        Ok(out)
+    }
+
+    fn session_start(&mut self, version: u32) {
+        self.session = Session::new(version);
+    }
+
+    fn session_give(&mut self, bytes: &[u8], tag: u64) -> Result<[u64; 4], Refused> {
+        let seen = self.session.give(bytes, tag).map_err(refused)?;
+        Ok(seen.map_or([0; 4], |seen| [1, seen.tag, seen.identity.into(), seen.columns.into()]))
+    }
+
+    fn read(&self, feed: &Feed<'a>) -> Totals {
+        let mut totals = Totals::default();
+        let mut in_block = false;
+        for bytes in &feed.messages {
+            let read = read_message(feed.version, in_block, bytes);
+            black_box(&read);
+            match read {
+                Ok(message) => {
+                    totals.accepted += 1;
+                    in_block = block_after(in_block, &message);
+                }
+                Err(_) => totals.refused += 1,
+            }
+        }
+        totals
+    }
+
+    fn session(&self, feed: &Feed<'a>) -> Totals {
+        let mut totals = Totals::default();
+        let mut session = Session::new(feed.version);
+        for (bytes, tag) in feed.messages.iter().zip(0..) {
+            let answer = session.give(bytes, tag);
+            black_box(&answer);
+            match answer {
+                Ok(seen) => {
+                    totals.accepted += 1;
+                    totals.sum += seen.map_or(0, |seen| seen.tag);
+                }
+                Err(_) => totals.refused += 1,
+            }
+        }
+        totals
+    }
+
+    fn fill(&mut self, version: u32, in_block: &mut bool, messages: &[&'a [u8]], _: &[Span]) {
+        self.batch.clear();
+        for bytes in messages {
+            if let Ok(message) = read_message(version, *in_block, bytes) {
+                self.batch.push((*in_block, message));
+                *in_block = block_after(*in_block, &message);
+            }
+        }
+    }
+
+    fn write(&self, version: u32, out: &mut [u8]) -> Totals {
+        let mut totals = Totals::default();
+        let mut at = 0;
+        for (in_block, message) in &self.batch {
+            let written = write_message(version, *in_block, message, &mut out[at..]);
+            black_box(&written);
+            match written {
+                Ok(length) => {
+                    totals.accepted += 1;
+                    at += length;
+                }
+                Err(_) => totals.refused += 1,
+            }
+        }
+        black_box(out);
+        totals.sum = at as u64;
+        totals
+    }
+
+    fn steps(&self) -> Totals {
+        let mut totals = Totals::default();
+        for (_, message) in &self.batch {
+            match *message {
+                Message::Insert { new, .. } => step_through(new, &mut totals),
+                Message::Update { old, new, .. } => {
+                    if let Some((_, old)) = old {
+                        step_through(old, &mut totals);
+                    }
+                    step_through(new, &mut totals);
+                }
+                Message::Delete { old, .. } => step_through(old, &mut totals),
+                _ => {}
+            }
+        }
+        totals
+    }
+}

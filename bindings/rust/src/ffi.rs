@@ -1,0 +1,111 @@
+//! The seven C functions and the safe calls to them: all the unsafe code there is. `include/kitsoriqu.h` says what each answers.
+//!
+//! The header asks of a caller that each pointer is good for the length that comes with it, and that what is written does not overlap
+//! what is read. References give both: a slice's pointer is good for its length (and is not null where that is 0), an array's for its
+//! numbers, and a `&mut` overlaps nothing else. The functions keep no pointer after they return, and any content of what they are
+//! lent is answered.
+
+/// The numbers of a flat form, of a step and of an answer.
+pub const FLAT: usize = 16;
+pub const STEP: usize = 5;
+pub const ANSWER: usize = 4;
+
+/// What `column_step` returns when there is nothing left.
+pub const OVER: u32 = 255;
+
+/// The header's `kq_session`. It is numbers only, so every content is a value of it.
+#[repr(C)]
+#[derive(Clone, PartialEq)]
+pub struct Record {
+    pub version: u32,
+    pub phase: u8,
+    pub current_xid: u32,
+    pub final_lsn: u64,
+    pub changed: u8,
+    pub stream_xids: [u32; 16],
+    pub stream_changed: [u8; 16],
+    pub owners: [u32; 256],
+    pub oids: [u32; 256],
+    pub tags: [u64; 256],
+    pub identities: [u8; 256],
+    pub columns: [u16; 256],
+}
+
+impl Record {
+    pub const ZERO: Record = Record {
+        version: 0,
+        phase: 0,
+        current_xid: 0,
+        final_lsn: 0,
+        changed: 0,
+        stream_xids: [0; 16],
+        stream_changed: [0; 16],
+        owners: [0; 256],
+        oids: [0; 256],
+        tags: [0; 256],
+        identities: [0; 256],
+        columns: [0; 256],
+    };
+}
+
+extern "C" {
+    fn kq_read(version: u32, in_block: u32, bytes: *const u8, len: usize, out: *mut u64) -> u32;
+    fn kq_write(
+        version: u32,
+        in_block: u32,
+        fields: *const u64,
+        source: *const u8,
+        source_len: usize,
+        out: *mut u8,
+        out_len: usize,
+        result: *mut u64,
+    ) -> u32;
+    fn kq_column_start(version: u32, in_block: u32, bytes: *const u8, len: usize, section: u32, position: *mut u64) -> u32;
+    fn kq_column_step(section: u32, bytes: *const u8, len: usize, position: *mut u64, out: *mut u64) -> u32;
+    fn kq_session_start(session: *mut Record, version: u32);
+    fn kq_session_start_default(session: *mut Record);
+    fn kq_session_give(session: *mut Record, bytes: *const u8, len: usize, tag: u64, answer: *mut u64) -> u32;
+}
+
+#[inline]
+pub fn read(version: u32, in_block: bool, bytes: &[u8], out: &mut [u64; FLAT]) -> u32 {
+    // SAFETY: `bytes` is read for its length; `out` is FLAT numbers.
+    unsafe { kq_read(version, in_block.into(), bytes.as_ptr(), bytes.len(), out.as_mut_ptr()) }
+}
+
+#[inline]
+pub fn write(version: u32, in_block: bool, fields: &[u64; FLAT], source: &[u8], out: &mut [u8], result: &mut u64) -> u32 {
+    // SAFETY: `fields` is FLAT numbers; `source` is read and `out` written for their lengths; `result` is one number.
+    unsafe { kq_write(version, in_block.into(), fields.as_ptr(), source.as_ptr(), source.len(), out.as_mut_ptr(), out.len(), result) }
+}
+
+#[inline]
+pub fn column_start(version: u32, in_block: bool, bytes: &[u8], section: u32, position: &mut [u64; 2]) -> u32 {
+    // SAFETY: `bytes` is read for its length; `position` is two numbers.
+    unsafe { kq_column_start(version, in_block.into(), bytes.as_ptr(), bytes.len(), section, position.as_mut_ptr()) }
+}
+
+#[inline]
+pub fn column_step(section: u32, bytes: &[u8], position: &mut [u64; 2], out: &mut [u64; STEP]) -> u32 {
+    // SAFETY: `bytes` is read for its length; `position` is two numbers and `out` is STEP.
+    unsafe { kq_column_step(section, bytes.as_ptr(), bytes.len(), position.as_mut_ptr(), out.as_mut_ptr()) }
+}
+
+#[inline]
+pub fn session_start(session: &mut Record, version: u32) {
+    // SAFETY: `session` is a whole record, laid out as the header's (tests/header.rs compares them).
+    unsafe { kq_session_start(session, version) }
+}
+
+#[inline]
+pub fn session_start_default(session: &mut Record) {
+    // SAFETY: as in `session_start`.
+    unsafe { kq_session_start_default(session) }
+}
+
+#[inline]
+pub fn session_give(session: &mut Record, bytes: &[u8], tag: u64, answer: &mut [u64; ANSWER]) -> u32 {
+    // SAFETY: as in `session_start`; `bytes` is read for its length; `answer` is ANSWER numbers. The `&mut` keeps a session from
+    // being given two messages at once.
+    unsafe { kq_session_give(session, bytes.as_ptr(), bytes.len(), tag, answer.as_mut_ptr()) }
+}

@@ -1,0 +1,18 @@
+#![doc = include_str!("../README.md")]
+#![deny(unsafe_code)]
+#![warn(missing_debug_implementations)]
+
+#[allow(unsafe_code)]
+mod ffi;
+
+mod fields;
+mod message;
+mod refusal;
+mod session;
+mod steps;
+
+pub use fields::{kind, write, Fields, Span};
+pub use message::{read, Decoded, Identity, Message, OldTuple};
+pub use refusal::Refusal;
+pub use session::{Answer, Session};
+pub use steps::{Column, Columns, Oids, Position, RelationColumn, Section, Tuple};

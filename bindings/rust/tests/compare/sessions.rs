@@ -1,0 +1,270 @@
+use crate::ffi::{self, Record};
+use crate::generate::{damage, message, Draft};
+use crate::history::{Announcement, History, Place};
+use crate::layouts::Refused;
+use crate::lent::{refused, Lent};
+use crate::rng::Rng;
+use crate::tally::Tally;
+use kitsoriqu::{Answer, Refusal, Session};
+
+/// What a sequence draws from: so many OIDs and xids; and how likely it is to end a transaction or block, to announce a relation and
+/// to close a stream.
+struct Pool {
+    oids: u64,
+    xids: u64,
+    ends: u64,
+    announces: u64,
+    closes: u64,
+}
+
+const MIXED: Pool = Pool { oids: 5, xids: 6, ends: 2, announces: 5, closes: 3 };
+
+/// More xids than there is room for, and few streams closed.
+const MANY_STREAMS: Pool = Pool { xids: 40, ends: 10, closes: 0, ..MIXED };
+
+/// More OIDs than there is room for, and mostly announcements.
+const MANY_OIDS: Pool = Pool { oids: 300, announces: 45, ..MIXED };
+
+impl Pool {
+    fn oid(&self, rng: &mut Rng) -> u32 {
+        1 + rng.below(self.oids) as u32
+    }
+
+    fn xid(&self, rng: &mut Rng) -> u32 {
+        1 + rng.below(self.xids) as u32
+    }
+}
+
+fn begin(rng: &mut Rng, xid: u32) -> Draft {
+    Draft::new(b'B').long(rng.below(3)).long(0).word(xid)
+}
+
+fn commit(lsn: u64) -> Draft {
+    Draft::new(b'C').byte(0).long(lsn).long(9).long(0)
+}
+
+fn stream_start(xid: u32, first: bool) -> Draft {
+    Draft::new(b'S').word(xid).byte(first.into())
+}
+
+fn stream_commit(xid: u32) -> Draft {
+    Draft::new(b'c').word(xid).byte(0).long(1).long(2).long(3)
+}
+
+fn stream_abort(xid: u32, sub_xid: u32) -> Draft {
+    Draft::new(b'A').word(xid).word(sub_xid)
+}
+
+fn relation(rng: &mut Rng, xid: Option<u32>, oid: u32) -> Draft {
+    let count = rng.below(3) as u16;
+    Draft::new(b'R').xid(xid).word(oid).text(rng, 2).text(rng, 2).byte(rng.pick(b"dnfi")).columns(rng, count)
+}
+
+/// An Insert, Update or Delete that fits what is announced, or nearly.
+fn change(rng: &mut Rng, xid: Option<u32>, oid: u32, seen: Option<Announcement>) -> Draft {
+    let mut count = seen.map_or(1, |seen| seen.columns as u16);
+    let is_full = seen.is_some_and(|seen| seen.identity == u64::from(b'f'));
+    let mut image = if is_full { b'O' } else { b'K' };
+    if rng.one_in(20) {
+        count += 1;
+    }
+    if rng.one_in(20) {
+        image = rng.pick(b"KO");
+    }
+    let letter = rng.pick(b"IUUD");
+    let mut draft = Draft::new(letter).xid(xid).word(oid);
+    if letter == b'D' || letter == b'U' && rng.one_in(2) {
+        draft = draft.byte(image).tuple(rng, count);
+    }
+    if letter != b'D' {
+        draft = draft.byte(b'N').tuple(rng, count);
+    }
+    draft
+}
+
+fn idle(rng: &mut Rng, history: &History, pool: &Pool) -> Draft {
+    let open: Vec<u64> = history.open().into_iter().collect();
+    let xid = pool.xid(rng);
+    let known = if open.is_empty() || rng.one_in(10) { xid } else { rng.pick(&open) as u32 };
+    match rng.below(9 + pool.closes) {
+        0..=3 => begin(rng, xid),
+        4 | 5 => stream_start(xid, !history.is_open(xid.into())),
+        6..=8 => stream_start(known, !history.is_open(known.into())),
+        9 => stream_commit(known),
+        10 => stream_abort(known, known),
+        _ => stream_abort(known, xid),
+    }
+}
+
+fn inside(rng: &mut Rng, history: &History, pool: &Pool) -> Draft {
+    // inside a block the xid may be a sub-transaction's
+    let xid = history.in_block().then(|| pool.xid(rng));
+    let oid = pool.oid(rng);
+    let n = rng.below(pool.ends + 13 + pool.announces);
+    if n < pool.ends {
+        return match history.place() {
+            Place::Transaction(lsn) => commit(lsn),
+            _ => Draft::new(b'E'),
+        };
+    }
+    match n - pool.ends {
+        0 => Draft::new(b'O').long(7).text(rng, 4),
+        1 => Draft::new(b'M').xid(xid).byte(1).long(7).text(rng, 4).value(rng, 4),
+        2 => Draft::new(b'Y').xid(xid).word(8).text(rng, 4).text(rng, 4),
+        3 | 4 => {
+            let oids: Vec<u32> = (0..=rng.below(3)).map(|_| pool.oid(rng)).collect();
+            Draft::new(b'T').xid(xid).oids(&oids, 0)
+        }
+        5..=12 => change(rng, xid, oid, history.visible(oid.into())),
+        _ => relation(rng, xid, oid),
+    }
+}
+
+/// The next message: mostly one that fits, now and then one that does not, or that is damaged.
+fn next(rng: &mut Rng, history: &History, pool: &Pool) -> Vec<u8> {
+    if rng.one_in(12) {
+        let xid = pool.xid(rng);
+        let in_block = history.in_block();
+        let out_of_place = match rng.below(8) {
+            0 => begin(rng, xid),
+            1 => commit(rng.below(3)),
+            2 => stream_start(xid, rng.one_in(2)),
+            3 => Draft::new(b'E'),
+            4 => stream_commit(xid),
+            5 => stream_abort(xid, xid),
+            6 => Draft(message(rng, in_block)),
+            _ => inside(rng, history, pool),
+        };
+        return out_of_place.0;
+    }
+    let mut bytes = if history.place() == Place::Idle { idle(rng, history, pool) } else { inside(rng, history, pool) }.0;
+    if rng.one_in(30) {
+        damage(rng, &mut bytes);
+    }
+    bytes
+}
+
+/// What the library fills in for an answer of the history's.
+fn numbers_of(expected: Result<Option<Announcement>, Refused>) -> (u32, [u64; 4]) {
+    match expected {
+        Ok(None) => (0, [0; 4]),
+        Ok(Some(seen)) => (0, [1, seen.tag, seen.identity, seen.columns]),
+        Err((number, offset)) => (number, refused(offset)),
+    }
+}
+
+fn typed_numbers(answer: Result<Answer, Refusal>) -> (u32, [u64; 4]) {
+    match answer {
+        Ok(Answer::Accepted) => (0, [0; 4]),
+        Ok(Answer::Change { tag, identity, columns }) => (0, [1, tag, identity.letter().into(), columns.into()]),
+        Err(refusal) => (refusal.number, refused(refusal.offset)),
+    }
+}
+
+/// Gives a record one message; a refusal must leave it as it was.
+fn give(record: &mut Lent<Record>, bytes: &[u8], tag: u64) -> (u32, [u64; 4]) {
+    let before = record.value.clone();
+    let mut answer = Lent::numbers();
+    let number = ffi::session_give(&mut record.value, bytes, tag, &mut answer.value);
+    assert!(number == 0 || record.value == before, "a refusal changed the session");
+    (number, answer.back())
+}
+
+/// A sequence of messages, each judged by the library and by the history.
+fn compare(rng: &mut Rng, version: Option<u32>, length: usize, pool: &Pool, tally: &mut Tally) {
+    let mut record = Lent::of(Record::ZERO);
+    let mut session = match version {
+        Some(version) => {
+            ffi::session_start(&mut record.value, version);
+            Session::new(version)
+        }
+        None => {
+            ffi::session_start_default(&mut record.value);
+            Session::default()
+        }
+    };
+    let mut history = History::new(version.unwrap_or(1));
+    for _ in 0..length {
+        let bytes = next(rng, &history, pool);
+        let tag = rng.any() >> rng.below(64);
+        let expected = numbers_of(history.give(&bytes, tag));
+        assert_eq!(give(&mut record, &bytes, tag), expected, "{bytes:02X?}");
+        assert_eq!(typed_numbers(session.give(&bytes, tag)), expected);
+        if rng.one_in(50) {
+            session = session.clone();
+        }
+        tally.note(expected.0);
+    }
+    record.back();
+}
+
+#[test]
+fn sequences() {
+    let mut rng = Rng::new(31);
+    let mut tally = Tally::new();
+    for i in 0..4_000 {
+        let version = match i % 20 {
+            0 => None,
+            1 => Some(rng.pick(&[0, 3, u32::MAX])),
+            2..=5 => Some(1),
+            _ => Some(2),
+        };
+        let length = 20 + rng.below(100) as usize;
+        compare(&mut rng, version, length, &MIXED, &mut tally);
+    }
+    tally.has_seen(&[0, 1, 2, 3, 4, 5, 6, 7, 8, 9, 10], 100);
+}
+
+#[test]
+fn room_for_streams() {
+    let mut rng = Rng::new(32);
+    let mut tally = Tally::new();
+    for _ in 0..200 {
+        compare(&mut rng, Some(2), 400, &MANY_STREAMS, &mut tally);
+    }
+    tally.has_seen(&[0, 2, 3, 4, 5, 6, 7, 8, 9, 10, 12], 1);
+}
+
+#[test]
+fn room_for_announcements() {
+    let mut rng = Rng::new(33);
+    let mut tally = Tally::new();
+    for _ in 0..12 {
+        compare(&mut rng, Some(2), 800, &MANY_OIDS, &mut tally);
+    }
+    tally.has_seen(&[0, 2, 3, 4, 5, 6, 7, 8, 9, 10, 11], 1);
+}
+
+/// A record of any numbers is answered, and a refusal leaves it as it was.
+#[test]
+fn made_up_records() {
+    let mut rng = Rng::new(34);
+    let mut tally = Tally::new();
+    let none = History::new(2);
+    for _ in 0..2_000 {
+        let few = |rng: &mut Rng| rng.any() as u32 & 7;
+        let mut record = Lent::of(Record {
+            version: 1 + rng.below(3) as u32,
+            phase: rng.byte() & rng.pick(&[3, 255]),
+            current_xid: few(&mut rng),
+            final_lsn: rng.below(3),
+            changed: rng.byte() & 3,
+            stream_xids: std::array::from_fn(|_| few(&mut rng)),
+            stream_changed: std::array::from_fn(|_| rng.byte() & 3),
+            owners: std::array::from_fn(|_| few(&mut rng)),
+            oids: std::array::from_fn(|_| few(&mut rng)),
+            tags: std::array::from_fn(|_| rng.any()),
+            identities: std::array::from_fn(|_| rng.pick(b"dnfi\0\xFF")),
+            columns: std::array::from_fn(|_| rng.pick(&[0, 1, 2, 1600, 0xFFFF])),
+        });
+        for _ in 0..20 {
+            let bytes = if rng.one_in(2) { inside(&mut rng, &none, &MIXED).0 } else { message(&mut rng, false) };
+            let (number, answer) = give(&mut record, &bytes, 1);
+            let is_filled = if number != 0 { answer[1..] == [0; 3] } else { answer[0] == 1 || answer == [0; 4] };
+            assert!(is_filled, "{number} {answer:?}");
+            tally.note(number);
+        }
+        record.back();
+    }
+    tally.has_seen(&[0, 1, 2, 3, 4, 6, 7, 8, 9, 10, 12], 1);
+}

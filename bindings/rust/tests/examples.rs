@@ -1,0 +1,29 @@
+//! The examples that the documents quote run and print what they say.
+use std::path::Path;
+use std::process::Command;
+
+#[path = "support/cc.rs"]
+mod cc;
+
+const HERE: &str = env!("CARGO_MANIFEST_DIR");
+
+const PRINTED: &str = "\
+message 0: accepted
+message 1: accepted
+message 2: accepted, of the announcement in message 1
+  relation 5: 42, null
+message 3: accepted
+message 4: refusal 7 at 0
+";
+
+#[test]
+fn c_example() {
+    assert_eq!(cc::run(&Path::new(HERE).join("../c/example.c"), "example"), PRINTED);
+}
+
+#[test]
+fn rust_example() {
+    let run = Command::new(env!("CARGO")).args(["run", "--quiet", "--offline", "--example", "feed"]).current_dir(HERE).output().unwrap();
+    assert!(run.status.success(), "{}", String::from_utf8_lossy(&run.stderr));
+    assert_eq!(String::from_utf8(run.stdout).unwrap(), PRINTED);
+}
