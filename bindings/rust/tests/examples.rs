@@ -1,4 +1,5 @@
 //! The examples that the documents quote run and print what they say.
+use std::fs;
 use std::path::Path;
 use std::process::Command;
 
@@ -26,4 +27,20 @@ fn rust_example() {
     let run = Command::new(env!("CARGO")).args(["run", "--quiet", "--offline", "--example", "feed"]).current_dir(HERE).output().unwrap();
     assert!(run.status.success(), "{}", String::from_utf8_lossy(&run.stderr));
     assert_eq!(String::from_utf8(run.stdout).unwrap(), PRINTED);
+}
+
+/// The first block of the repository's README after a mark.
+fn quoted(readme: &str, mark: &str) -> String {
+    let (_, rest) = readme.split_once(mark).expect(mark);
+    let (block, _) = rest.split_once("\n```").expect("the block's end");
+    block.to_owned()
+}
+
+#[test]
+fn readme_quotes_the_examples() {
+    let readme = fs::read_to_string(Path::new(HERE).join("../../README.md")).unwrap();
+    for (mark, file) in [("```c\n", "../c/example.c"), ("```rust\n", "examples/feed.rs")] {
+        let source = fs::read_to_string(Path::new(HERE).join(file)).unwrap();
+        assert!(source.contains(&quoted(&readme, mark)), "{file}");
+    }
 }
