@@ -5,3 +5,4 @@ pub mod Made
 pub mod FlatForm
 pub mod ReadFits
 pub mod TakenBack
+pub mod Told
