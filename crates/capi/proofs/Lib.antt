@@ -5,5 +5,6 @@ pub mod Made
 pub mod FlatForm
 pub mod ReadFits
 pub mod TakenBack
+pub mod Told
 pub mod Steps
 pub mod Low

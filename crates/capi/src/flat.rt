@@ -19,7 +19,7 @@ use message::Type;
 use message::Update;
 use message::kind;
 
-fn flatten_begin(out: &mut [u64; 16], m: Begin)
+pub fn flatten_begin(out: &mut [u64; 16], m: Begin)
     ensures { λ r. ⌜ now (out .exit) ≡ flat (a.Begin m) ⌝ }
 {
     *out = [0; 16];
@@ -29,7 +29,7 @@ fn flatten_begin(out: &mut [u64; 16], m: Begin)
     out[3] = m.xid as u64;
 }
 
-fn flatten_commit(out: &mut [u64; 16], m: Commit)
+pub fn flatten_commit(out: &mut [u64; 16], m: Commit)
     ensures { λ r. ⌜ now (out .exit) ≡ flat (a.Commit m) ⌝ }
 {
     *out = [0; 16];
@@ -40,7 +40,7 @@ fn flatten_commit(out: &mut [u64; 16], m: Commit)
     out[4] = wire::bits64(m.time);
 }
 
-fn flatten_origin(out: &mut [u64; 16], m: Origin)
+pub fn flatten_origin(out: &mut [u64; 16], m: Origin)
     ensures { λ r. ⌜ now (out .exit) ≡ flat (a.Origin m) ⌝ }
 {
     *out = [0; 16];
@@ -50,7 +50,7 @@ fn flatten_origin(out: &mut [u64; 16], m: Origin)
     out[3] = m.name.length as u64;
 }
 
-fn flatten_relation(out: &mut [u64; 16], m: Relation)
+pub fn flatten_relation(out: &mut [u64; 16], m: Relation)
     ensures { λ r. ⌜ now (out .exit) ≡ flat (a.Relation m) ⌝ }
 {
     *out = [0; 16];
@@ -66,7 +66,7 @@ fn flatten_relation(out: &mut [u64; 16], m: Relation)
     out[9] = m.columns as u64;
 }
 
-fn flatten_type(out: &mut [u64; 16], m: Type)
+pub fn flatten_type(out: &mut [u64; 16], m: Type)
     ensures { λ r. ⌜ now (out .exit) ≡ flat (a.«Type» m) ⌝ }
 {
     *out = [0; 16];
@@ -79,7 +79,7 @@ fn flatten_type(out: &mut [u64; 16], m: Type)
     out[6] = m.name.length as u64;
 }
 
-fn flatten_insert(out: &mut [u64; 16], m: Insert)
+pub fn flatten_insert(out: &mut [u64; 16], m: Insert)
     ensures { λ r. ⌜ now (out .exit) ≡ flat (a.Insert m) ⌝ }
 {
     *out = [0; 16];
@@ -89,7 +89,7 @@ fn flatten_insert(out: &mut [u64; 16], m: Insert)
     out[3] = m.tuple as u64;
 }
 
-fn flatten_update(out: &mut [u64; 16], m: Update)
+pub fn flatten_update(out: &mut [u64; 16], m: Update)
     ensures { λ r. ⌜ now (out .exit) ≡ flat (a.Update m) ⌝ }
 {
     let Update {
@@ -116,7 +116,7 @@ fn flatten_update(out: &mut [u64; 16], m: Update)
     }
 }
 
-fn flatten_delete(out: &mut [u64; 16], m: Delete)
+pub fn flatten_delete(out: &mut [u64; 16], m: Delete)
     ensures { λ r. ⌜ now (out .exit) ≡ flat (a.Delete m) ⌝ }
 {
     *out = [0; 16];
@@ -127,7 +127,7 @@ fn flatten_delete(out: &mut [u64; 16], m: Delete)
     out[4] = m.tuple as u64;
 }
 
-fn flatten_truncate(out: &mut [u64; 16], m: Truncate)
+pub fn flatten_truncate(out: &mut [u64; 16], m: Truncate)
     ensures { λ r. ⌜ now (out .exit) ≡ flat (a.Truncate m) ⌝ }
 {
     *out = [0; 16];
@@ -138,7 +138,7 @@ fn flatten_truncate(out: &mut [u64; 16], m: Truncate)
     out[4] = m.relations as u64;
 }
 
-fn flatten_logical_message(out: &mut [u64; 16], m: LogicalMessage)
+pub fn flatten_logical_message(out: &mut [u64; 16], m: LogicalMessage)
     ensures { λ r. ⌜ now (out .exit) ≡ flat (a.Message m) ⌝ }
 {
     *out = [0; 16];
@@ -152,7 +152,7 @@ fn flatten_logical_message(out: &mut [u64; 16], m: LogicalMessage)
     out[7] = m.content.length as u64;
 }
 
-fn flatten_stream_start(out: &mut [u64; 16], m: StreamStart)
+pub fn flatten_stream_start(out: &mut [u64; 16], m: StreamStart)
     ensures { λ r. ⌜ now (out .exit) ≡ flat (a.StreamStart m) ⌝ }
 {
     *out = [0; 16];
@@ -161,14 +161,14 @@ fn flatten_stream_start(out: &mut [u64; 16], m: StreamStart)
     out[2] = m.first as u64;
 }
 
-fn flatten_stream_stop(out: &mut [u64; 16])
+pub fn flatten_stream_stop(out: &mut [u64; 16])
     ensures { λ r. ⌜ now (out .exit) ≡ flat a.StreamStop ⌝ }
 {
     *out = [0; 16];
     out[0] = kind::STREAM_STOP as u64;
 }
 
-fn flatten_stream_commit(out: &mut [u64; 16], m: StreamCommit)
+pub fn flatten_stream_commit(out: &mut [u64; 16], m: StreamCommit)
     ensures { λ r. ⌜ now (out .exit) ≡ flat (a.StreamCommit m) ⌝ }
 {
     *out = [0; 16];
@@ -180,7 +180,7 @@ fn flatten_stream_commit(out: &mut [u64; 16], m: StreamCommit)
     out[5] = wire::bits64(m.time);
 }
 
-fn flatten_stream_abort(out: &mut [u64; 16], m: StreamAbort)
+pub fn flatten_stream_abort(out: &mut [u64; 16], m: StreamAbort)
     ensures { λ r. ⌜ now (out .exit) ≡ flat (a.StreamAbort m) ⌝ }
 {
     *out = [0; 16];

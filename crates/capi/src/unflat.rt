@@ -1,8 +1,10 @@
 // The message whose flat form a row of 16 numbers is.
 ghost use mathlib.Core.Path.{_≡_};
-ghost use Rattle.message.specs.Kinds.{layout, begin, commit, origin, relation, type, insert, update, delete, truncate, message, streamStart, streamCommit, streamAbort};
-ghost use Rattle.message.specs.Messages.{messageOf, oldTuple};
-ghost use Rattle.capi.specs.Flat.{held, parted, kindIn, messageIn, same, unflat};
+ghost use mathlib.Core.Bool.{cond};
+ghost use mathlib.Core.Option.{some};
+ghost use Rattle.message.specs.Kinds.{begin, commit, origin, relation, type, insert, update, delete, truncate, message, streamStart, streamStop, streamCommit, streamAbort};
+ghost use Rattle.message.specs.Messages.{oldTuple};
+ghost use Rattle.capi.specs.Flat.{held, messageIn, same, whole, unflat};
 use crate::flat;
 use message::Begin;
 use message::Commit;
@@ -79,169 +81,6 @@ fn old_tuple(letter: u64, start: u64) -> OldTuple
     }
 }
 
-fn begin_of(row: &[u64; 16]) -> Message
-    ensures { λ r. ⌜ r ≡ messageOf begin (parted (now (row .entry)) 1 (layout begin)) ⌝ }
-{
-    Message::Begin(Begin {
-        final_lsn: long(row[1]),
-        time: wire::signed64(long(row[2])),
-        xid: word(row[3]),
-    })
-}
-
-fn commit_of(row: &[u64; 16]) -> Message
-    ensures { λ r. ⌜ r ≡ messageOf commit (parted (now (row .entry)) 1 (layout commit)) ⌝ }
-{
-    Message::Commit(Commit {
-        flags: byte(row[1]),
-        commit_lsn: long(row[2]),
-        end_lsn: long(row[3]),
-        time: wire::signed64(long(row[4])),
-    })
-}
-
-fn origin_of(row: &[u64; 16]) -> Message
-    ensures { λ r. ⌜ r ≡ messageOf origin (parted (now (row .entry)) 1 (layout origin)) ⌝ }
-{
-    Message::Origin(Origin {
-        lsn: long(row[1]),
-        name: span(row[2], row[3]),
-    })
-}
-
-fn relation_of(row: &[u64; 16]) -> Message
-    ensures { λ r. ⌜ r ≡ messageOf relation (parted (now (row .entry)) 1 (layout relation)) ⌝ }
-{
-    Message::Relation(Relation {
-        xid: word(row[1]),
-        relation: word(row[2]),
-        namespace: span(row[3], row[4]),
-        name: span(row[5], row[6]),
-        identity: byte(row[7]),
-        count: half(row[8]),
-        columns: offset(row[9]),
-    })
-}
-
-fn type_of(row: &[u64; 16]) -> Message
-    ensures { λ r. ⌜ r ≡ messageOf type (parted (now (row .entry)) 1 (layout type)) ⌝ }
-{
-    Message::Type(Type {
-        xid: word(row[1]),
-        oid: word(row[2]),
-        namespace: span(row[3], row[4]),
-        name: span(row[5], row[6]),
-    })
-}
-
-fn insert_of(row: &[u64; 16]) -> Message
-    ensures { λ r. ⌜ r ≡ messageOf insert (parted (now (row .entry)) 1 (layout insert)) ⌝ }
-{
-    Message::Insert(Insert {
-        xid: word(row[1]),
-        relation: word(row[2]),
-        tuple: offset(row[3]),
-    })
-}
-
-fn update_of(row: &[u64; 16]) -> Message
-    ensures { λ r. ⌜ r ≡ messageOf update (parted (now (row .entry)) 1 (layout update)) ⌝ }
-{
-    Message::Update(Update {
-        xid: word(row[1]),
-        relation: word(row[2]),
-        old: old_tuple(row[3], row[4]),
-        tuple: offset(row[5]),
-    })
-}
-
-fn delete_of(row: &[u64; 16]) -> Message
-    ensures { λ r. ⌜ r ≡ messageOf delete (parted (now (row .entry)) 1 (layout delete)) ⌝ }
-{
-    Message::Delete(Delete {
-        xid: word(row[1]),
-        relation: word(row[2]),
-        image: byte(row[3]),
-        tuple: offset(row[4]),
-    })
-}
-
-fn truncate_of(row: &[u64; 16]) -> Message
-    ensures { λ r. ⌜ r ≡ messageOf truncate (parted (now (row .entry)) 1 (layout truncate)) ⌝ }
-{
-    Message::Truncate(Truncate {
-        xid: word(row[1]),
-        count: word(row[2]),
-        options: byte(row[3]),
-        relations: offset(row[4]),
-    })
-}
-
-fn logical_message_of(row: &[u64; 16]) -> Message
-    ensures { λ r. ⌜ r ≡ messageOf message (parted (now (row .entry)) 1 (layout message)) ⌝ }
-{
-    Message::Message(LogicalMessage {
-        xid: word(row[1]),
-        flags: byte(row[2]),
-        lsn: long(row[3]),
-        prefix: span(row[4], row[5]),
-        content: span(row[6], row[7]),
-    })
-}
-
-fn stream_start_of(row: &[u64; 16]) -> Message
-    ensures { λ r. ⌜ r ≡ messageOf streamStart (parted (now (row .entry)) 1 (layout streamStart)) ⌝ }
-{
-    Message::StreamStart(StreamStart {
-        xid: word(row[1]),
-        first: byte(row[2]),
-    })
-}
-
-fn stream_commit_of(row: &[u64; 16]) -> Message
-    ensures { λ r. ⌜ r ≡ messageOf streamCommit (parted (now (row .entry)) 1 (layout streamCommit)) ⌝ }
-{
-    Message::StreamCommit(StreamCommit {
-        xid: word(row[1]),
-        flags: byte(row[2]),
-        commit_lsn: long(row[3]),
-        end_lsn: long(row[4]),
-        time: wire::signed64(long(row[5])),
-    })
-}
-
-fn stream_abort_of(row: &[u64; 16]) -> Message
-    ensures { λ r. ⌜ r ≡ messageOf streamAbort (parted (now (row .entry)) 1 (layout streamAbort)) ⌝ }
-{
-    Message::StreamAbort(StreamAbort {
-        xid: word(row[1]),
-        sub_xid: word(row[2]),
-    })
-}
-
-// The message that a row's numbers make, each that is too big for its field as 0.
-fn message_in(row: &[u64; 16]) -> Found
-    ensures { λ r. ⌜ r ≡ messageIn (now (row .entry)) (kindIn (now (row .entry))) ⌝ }
-{
-    match byte(row[0]) {
-        kind::BEGIN => Found::Message(begin_of(row)),
-        kind::COMMIT => Found::Message(commit_of(row)),
-        kind::ORIGIN => Found::Message(origin_of(row)),
-        kind::RELATION => Found::Message(relation_of(row)),
-        kind::TYPE => Found::Message(type_of(row)),
-        kind::INSERT => Found::Message(insert_of(row)),
-        kind::UPDATE => Found::Message(update_of(row)),
-        kind::DELETE => Found::Message(delete_of(row)),
-        kind::TRUNCATE => Found::Message(truncate_of(row)),
-        kind::MESSAGE => Found::Message(logical_message_of(row)),
-        kind::STREAM_START => Found::Message(stream_start_of(row)),
-        kind::STREAM_STOP => Found::Message(Message::StreamStop),
-        kind::STREAM_COMMIT => Found::Message(stream_commit_of(row)),
-        kind::STREAM_ABORT => Found::Message(stream_abort_of(row)),
-        _ => Found::Nothing,
-    }
-}
-
 fn same_row(a: &[u64; 16], b: &[u64; 16]) -> bool
     ensures { λ r. ⌜ r ≡ same 16 (now (a .entry)) (now (b .entry)) ⌝ }
 {
@@ -255,20 +94,225 @@ fn same_row(a: &[u64; 16], b: &[u64; 16]) -> bool
     true
 }
 
+// A message, where its flat form `again` is the row.
+fn if_same(again: &[u64; 16], row: &[u64; 16], m: Message) -> Found
+    ensures { λ r. ⌜ r ≡ cond (same 16 (now (again .entry)) (now (row .entry))) (Found.Message m) Found.Nothing ⌝ }
+{
+    if same_row(again, row) {
+        Found::Message(m)
+    } else {
+        Found::Nothing
+    }
+}
+
+// THE KINDS. Where a number is too big for its field, it is 0 in the message, whose flat form is not the row.
+
+fn begin_in(row: &[u64; 16]) -> Found
+    ensures { λ r. ⌜ r ≡ whole (now (row .entry)) (messageIn (now (row .entry)) (some begin)) ⌝ }
+{
+    let m = Begin {
+        final_lsn: long(row[1]),
+        time: wire::signed64(long(row[2])),
+        xid: word(row[3]),
+    };
+    let mut again = [0; 16];
+    flat::flatten_begin(&mut again, m);
+    if_same(&again, row, Message::Begin(m))
+}
+
+fn commit_in(row: &[u64; 16]) -> Found
+    ensures { λ r. ⌜ r ≡ whole (now (row .entry)) (messageIn (now (row .entry)) (some commit)) ⌝ }
+{
+    let m = Commit {
+        flags: byte(row[1]),
+        commit_lsn: long(row[2]),
+        end_lsn: long(row[3]),
+        time: wire::signed64(long(row[4])),
+    };
+    let mut again = [0; 16];
+    flat::flatten_commit(&mut again, m);
+    if_same(&again, row, Message::Commit(m))
+}
+
+fn origin_in(row: &[u64; 16]) -> Found
+    ensures { λ r. ⌜ r ≡ whole (now (row .entry)) (messageIn (now (row .entry)) (some origin)) ⌝ }
+{
+    let m = Origin {
+        lsn: long(row[1]),
+        name: span(row[2], row[3]),
+    };
+    let mut again = [0; 16];
+    flat::flatten_origin(&mut again, m);
+    if_same(&again, row, Message::Origin(m))
+}
+
+fn relation_in(row: &[u64; 16]) -> Found
+    ensures { λ r. ⌜ r ≡ whole (now (row .entry)) (messageIn (now (row .entry)) (some relation)) ⌝ }
+{
+    let m = Relation {
+        xid: word(row[1]),
+        relation: word(row[2]),
+        namespace: span(row[3], row[4]),
+        name: span(row[5], row[6]),
+        identity: byte(row[7]),
+        count: half(row[8]),
+        columns: offset(row[9]),
+    };
+    let mut again = [0; 16];
+    flat::flatten_relation(&mut again, m);
+    if_same(&again, row, Message::Relation(m))
+}
+
+fn type_in(row: &[u64; 16]) -> Found
+    ensures { λ r. ⌜ r ≡ whole (now (row .entry)) (messageIn (now (row .entry)) (some type)) ⌝ }
+{
+    let m = Type {
+        xid: word(row[1]),
+        oid: word(row[2]),
+        namespace: span(row[3], row[4]),
+        name: span(row[5], row[6]),
+    };
+    let mut again = [0; 16];
+    flat::flatten_type(&mut again, m);
+    if_same(&again, row, Message::Type(m))
+}
+
+fn insert_in(row: &[u64; 16]) -> Found
+    ensures { λ r. ⌜ r ≡ whole (now (row .entry)) (messageIn (now (row .entry)) (some insert)) ⌝ }
+{
+    let m = Insert {
+        xid: word(row[1]),
+        relation: word(row[2]),
+        tuple: offset(row[3]),
+    };
+    let mut again = [0; 16];
+    flat::flatten_insert(&mut again, m);
+    if_same(&again, row, Message::Insert(m))
+}
+
+fn update_in(row: &[u64; 16]) -> Found
+    ensures { λ r. ⌜ r ≡ whole (now (row .entry)) (messageIn (now (row .entry)) (some update)) ⌝ }
+{
+    let m = Update {
+        xid: word(row[1]),
+        relation: word(row[2]),
+        old: old_tuple(row[3], row[4]),
+        tuple: offset(row[5]),
+    };
+    let mut again = [0; 16];
+    flat::flatten_update(&mut again, m);
+    if_same(&again, row, Message::Update(m))
+}
+
+fn delete_in(row: &[u64; 16]) -> Found
+    ensures { λ r. ⌜ r ≡ whole (now (row .entry)) (messageIn (now (row .entry)) (some delete)) ⌝ }
+{
+    let m = Delete {
+        xid: word(row[1]),
+        relation: word(row[2]),
+        image: byte(row[3]),
+        tuple: offset(row[4]),
+    };
+    let mut again = [0; 16];
+    flat::flatten_delete(&mut again, m);
+    if_same(&again, row, Message::Delete(m))
+}
+
+fn truncate_in(row: &[u64; 16]) -> Found
+    ensures { λ r. ⌜ r ≡ whole (now (row .entry)) (messageIn (now (row .entry)) (some truncate)) ⌝ }
+{
+    let m = Truncate {
+        xid: word(row[1]),
+        count: word(row[2]),
+        options: byte(row[3]),
+        relations: offset(row[4]),
+    };
+    let mut again = [0; 16];
+    flat::flatten_truncate(&mut again, m);
+    if_same(&again, row, Message::Truncate(m))
+}
+
+fn logical_message_in(row: &[u64; 16]) -> Found
+    ensures { λ r. ⌜ r ≡ whole (now (row .entry)) (messageIn (now (row .entry)) (some message)) ⌝ }
+{
+    let m = LogicalMessage {
+        xid: word(row[1]),
+        flags: byte(row[2]),
+        lsn: long(row[3]),
+        prefix: span(row[4], row[5]),
+        content: span(row[6], row[7]),
+    };
+    let mut again = [0; 16];
+    flat::flatten_logical_message(&mut again, m);
+    if_same(&again, row, Message::Message(m))
+}
+
+fn stream_start_in(row: &[u64; 16]) -> Found
+    ensures { λ r. ⌜ r ≡ whole (now (row .entry)) (messageIn (now (row .entry)) (some streamStart)) ⌝ }
+{
+    let m = StreamStart {
+        xid: word(row[1]),
+        first: byte(row[2]),
+    };
+    let mut again = [0; 16];
+    flat::flatten_stream_start(&mut again, m);
+    if_same(&again, row, Message::StreamStart(m))
+}
+
+fn stream_stop_in(row: &[u64; 16]) -> Found
+    ensures { λ r. ⌜ r ≡ whole (now (row .entry)) (messageIn (now (row .entry)) (some streamStop)) ⌝ }
+{
+    let mut again = [0; 16];
+    flat::flatten_stream_stop(&mut again);
+    if_same(&again, row, Message::StreamStop)
+}
+
+fn stream_commit_in(row: &[u64; 16]) -> Found
+    ensures { λ r. ⌜ r ≡ whole (now (row .entry)) (messageIn (now (row .entry)) (some streamCommit)) ⌝ }
+{
+    let m = StreamCommit {
+        xid: word(row[1]),
+        flags: byte(row[2]),
+        commit_lsn: long(row[3]),
+        end_lsn: long(row[4]),
+        time: wire::signed64(long(row[5])),
+    };
+    let mut again = [0; 16];
+    flat::flatten_stream_commit(&mut again, m);
+    if_same(&again, row, Message::StreamCommit(m))
+}
+
+fn stream_abort_in(row: &[u64; 16]) -> Found
+    ensures { λ r. ⌜ r ≡ whole (now (row .entry)) (messageIn (now (row .entry)) (some streamAbort)) ⌝ }
+{
+    let m = StreamAbort {
+        xid: word(row[1]),
+        sub_xid: word(row[2]),
+    };
+    let mut again = [0; 16];
+    flat::flatten_stream_abort(&mut again, m);
+    if_same(&again, row, Message::StreamAbort(m))
+}
+
 // The message whose flat form a row is.
 pub fn unflatten(row: &[u64; 16]) -> Found
     ensures { λ r. ⌜ r ≡ unflat (now (row .entry)) ⌝ }
 {
-    match message_in(row) {
-        Found::Nothing => Found::Nothing,
-        Found::Message(m) => {
-            let mut again = [0; 16];
-            flat::flatten(&mut again, m);
-            if same_row(&again, row) {
-                Found::Message(m)
-            } else {
-                Found::Nothing
-            }
-        }
+    match byte(row[0]) {
+        kind::BEGIN => begin_in(row),
+        kind::COMMIT => commit_in(row),
+        kind::ORIGIN => origin_in(row),
+        kind::RELATION => relation_in(row),
+        kind::TYPE => type_in(row),
+        kind::INSERT => insert_in(row),
+        kind::UPDATE => update_in(row),
+        kind::DELETE => delete_in(row),
+        kind::TRUNCATE => truncate_in(row),
+        kind::MESSAGE => logical_message_in(row),
+        kind::STREAM_START => stream_start_in(row),
+        kind::STREAM_STOP => stream_stop_in(row),
+        kind::STREAM_COMMIT => stream_commit_in(row),
+        kind::STREAM_ABORT => stream_abort_in(row),
+        _ => Found::Nothing,
     }
 }

@@ -190,9 +190,18 @@ pub enum Read {
     Refused(Refusal),
 }
 
-// The number of the kind that a first byte names, and 0 for each other byte.
+// The number of the kind that a first byte names, and 0 for each other byte. An entry at a constant place is known when this is
+// compiled; for any other place the table is laid on the stack first, so the letters of most messages stand here.
 pub fn kind_of(letter: u8) -> u8
     ensures { λ r. ⌜ r ≡ kindNumber (kindOf letter) ⌝ }
 {
-    kind::OF_LETTER[letter as usize]
+    match letter {
+        b'I' => kind::OF_LETTER[73],
+        b'U' => kind::OF_LETTER[85],
+        b'D' => kind::OF_LETTER[68],
+        b'B' => kind::OF_LETTER[66],
+        b'C' => kind::OF_LETTER[67],
+        b'R' => kind::OF_LETTER[82],
+        _ => kind::OF_LETTER[letter as usize],
+    }
 }

@@ -1,5 +1,5 @@
-use mathlib.Core.Path.{sym, _∙_}
 use borrow.Author.Needs.{needs}
+use Rattle.capi.proofs.Told.{tells}
 use Rattle.capi.proofs.writing.kq_write.Statement.{statement}
 use Rattle.capi.proofs.writing.kq_write.Tie as tie
 
@@ -19,19 +19,13 @@ same-length : tie.Need-same-length
 same-length c = search needs
 
 returns : tie.Need-returns
-returns c =
-    let w = c .before .before .before .before .before .write-row .ensures in
-    let e = sym (w .answer) ∙ c .before .n .given .1 in
-    record { number = rw e; told = rw e; output = w .output }
+returns c = tells _ _ _ _ _ (c .before .before .before .before .before .write-row .ensures) (c .before .n .given .1)
 
 same-length-2 : tie.Need-same-length-2
 same-length-2 c = search needs
 
 returns-2 : tie.Need-returns-2
-returns-2 c =
-    let w = c .before .before .before .before .before .before .write-row .ensures in
-    let e = sym (w .answer) ∙ c .before .before .refusal .given .1 in
-    record { number = rw e; told = rw e; output = w .output }
+returns-2 c = tells _ _ _ _ _ (c .before .before .before .before .before .before .write-row .ensures) (c .before .before .refusal .given .1)
 
 pub kq-write-spec : {M : Type 1} → statement M
 kq-write-spec =

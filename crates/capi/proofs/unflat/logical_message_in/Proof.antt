@@ -1,6 +1,6 @@
 use borrow.Author.Needs.{needs}
-use Rattle.capi.proofs.unflat.logical_message_of.Statement.{statement}
-use Rattle.capi.proofs.unflat.logical_message_of.Tie as tie
+use Rattle.capi.proofs.unflat.logical_message_in.Statement.{statement}
+use Rattle.capi.proofs.unflat.logical_message_in.Tie as tie
 
 element-copy-out-word : tie.Need-element-copy-out-word
 element-copy-out-word c = search needs
@@ -38,11 +38,17 @@ element-copy-out-span-4 c = search needs
 span-requires-2 : tie.Need-span-requires-2
 span-requires-2 c κs = tt
 
-returns : tie.Need-returns
-returns c = rw (c .span2 .ensures, c .before .before .before .span .ensures, c .before .before .before .before .before .before .long .ensures, c .before .before .before .before .before .before .before .before .byte .ensures, c .before .before .before .before .before .before .before .before .before .before .word .ensures)
+flatten-logical-message-requires : tie.Need-flatten-logical-message-requires
+flatten-logical-message-requires c κs = tt
 
-pub logical-message-of-spec : {M : Type 1} → statement M
-logical-message-of-spec =
+if-same-requires : tie.Need-if-same-requires
+if-same-requires c κs = tt
+
+returns : tie.Need-returns
+returns c = rw (c .if-same .ensures, c .before .before .flatten-logical-message .ensures, c .before .before .before .before .span2 .ensures, c .before .before .before .before .before .before .before .span .ensures, c .before .before .before .before .before .before .before .before .before .before .long .ensures, c .before .before .before .before .before .before .before .before .before .before .before .before .byte .ensures, c .before .before .before .before .before .before .before .before .before .before .before .before .before .before .word .ensures)
+
+pub logical-message-in-spec : {M : Type 1} → statement M
+logical-message-in-spec =
     tie.close
     (tie.spec
     element-copy-out-word
@@ -57,4 +63,6 @@ logical-message-of-spec =
     element-copy-out-span-3
     element-copy-out-span-4
     span-requires-2
+    flatten-logical-message-requires
+    if-same-requires
     returns)

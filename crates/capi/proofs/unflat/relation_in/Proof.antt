@@ -1,6 +1,6 @@
 use borrow.Author.Needs.{needs}
-use Rattle.capi.proofs.unflat.relation_of.Statement.{statement}
-use Rattle.capi.proofs.unflat.relation_of.Tie as tie
+use Rattle.capi.proofs.unflat.relation_in.Statement.{statement}
+use Rattle.capi.proofs.unflat.relation_in.Tie as tie
 
 element-copy-out-word : tie.Need-element-copy-out-word
 element-copy-out-word c = search needs
@@ -50,11 +50,17 @@ element-copy-out-offset c = search needs
 offset-requires : tie.Need-offset-requires
 offset-requires c κs = tt
 
-returns : tie.Need-returns
-returns c = rw (c .offset .ensures, c .before .before .half .ensures, c .before .before .before .before .byte .ensures, c .before .before .before .before .before .before .span2 .ensures, c .before .before .before .before .before .before .before .before .before .span .ensures, c .before .before .before .before .before .before .before .before .before .before .before .before .word2 .ensures, c .before .before .before .before .before .before .before .before .before .before .before .before .before .before .word .ensures)
+flatten-relation-requires : tie.Need-flatten-relation-requires
+flatten-relation-requires c κs = tt
 
-pub relation-of-spec : {M : Type 1} → statement M
-relation-of-spec =
+if-same-requires : tie.Need-if-same-requires
+if-same-requires c κs = tt
+
+returns : tie.Need-returns
+returns c = rw (c .if-same .ensures, c .before .before .flatten-relation .ensures, c .before .before .before .before .offset .ensures, c .before .before .before .before .before .before .half .ensures, c .before .before .before .before .before .before .before .before .byte .ensures, c .before .before .before .before .before .before .before .before .before .before .span2 .ensures, c .before .before .before .before .before .before .before .before .before .before .before .before .before .span .ensures, c .before .before .before .before .before .before .before .before .before .before .before .before .before .before .before .before .word2 .ensures, c .before .before .before .before .before .before .before .before .before .before .before .before .before .before .before .before .before .before .word .ensures)
+
+pub relation-in-spec : {M : Type 1} → statement M
+relation-in-spec =
     tie.close
     (tie.spec
     element-copy-out-word
@@ -73,4 +79,6 @@ relation-of-spec =
     half-requires
     element-copy-out-offset
     offset-requires
+    flatten-relation-requires
+    if-same-requires
     returns)

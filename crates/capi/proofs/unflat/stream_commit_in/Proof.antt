@@ -1,8 +1,8 @@
 use mir.Syntax.{w64}
 use mir.ValLaws.{toZ-ofZ}
 use borrow.Author.Needs.{needs}
-use Rattle.capi.proofs.unflat.stream_commit_of.Statement.{statement}
-use Rattle.capi.proofs.unflat.stream_commit_of.Tie as tie
+use Rattle.capi.proofs.unflat.stream_commit_in.Statement.{statement}
+use Rattle.capi.proofs.unflat.stream_commit_in.Tie as tie
 
 element-copy-out-word : tie.Need-element-copy-out-word
 element-copy-out-word c = search needs
@@ -37,11 +37,17 @@ long-requires-3 c κs = tt
 signed64-requires : tie.Need-signed64-requires
 signed64-requires c κs = tt
 
-returns : tie.Need-returns
-returns c = rw (toZ-ofZ w64 (c .signed64 .result) (record { sfits = c .signed64 .ok }), c .signed64 .ensures, c .before .long3 .ensures, c .before .before .before .long2 .ensures, c .before .before .before .before .before .long .ensures, c .before .before .before .before .before .before .before .byte .ensures, c .before .before .before .before .before .before .before .before .before .word .ensures)
+flatten-stream-commit-requires : tie.Need-flatten-stream-commit-requires
+flatten-stream-commit-requires c κs = tt
 
-pub stream-commit-of-spec : {M : Type 1} → statement M
-stream-commit-of-spec =
+if-same-requires : tie.Need-if-same-requires
+if-same-requires c κs = tt
+
+returns : tie.Need-returns
+returns c = rw (c .if-same .ensures, c .before .before .flatten-stream-commit .ensures, toZ-ofZ w64 (c .before .before .before .before .signed64 .result) (record { sfits = c .before .before .before .before .signed64 .ok }), c .before .before .before .before .signed64 .ensures, c .before .before .before .before .before .long3 .ensures, c .before .before .before .before .before .before .before .long2 .ensures, c .before .before .before .before .before .before .before .before .before .long .ensures, c .before .before .before .before .before .before .before .before .before .before .before .byte .ensures, c .before .before .before .before .before .before .before .before .before .before .before .before .before .word .ensures)
+
+pub stream-commit-in-spec : {M : Type 1} → statement M
+stream-commit-in-spec =
     tie.close
     (tie.spec
     element-copy-out-word
@@ -55,4 +61,6 @@ stream-commit-of-spec =
     element-copy-out-long-3
     long-requires-3
     signed64-requires
+    flatten-stream-commit-requires
+    if-same-requires
     returns)

@@ -1,6 +1,6 @@
 use borrow.Author.Needs.{needs}
-use Rattle.capi.proofs.unflat.update_of.Statement.{statement}
-use Rattle.capi.proofs.unflat.update_of.Tie as tie
+use Rattle.capi.proofs.unflat.update_in.Statement.{statement}
+use Rattle.capi.proofs.unflat.update_in.Tie as tie
 
 element-copy-out-word : tie.Need-element-copy-out-word
 element-copy-out-word c = search needs
@@ -29,11 +29,17 @@ element-copy-out-offset c = search needs
 offset-requires : tie.Need-offset-requires
 offset-requires c κs = tt
 
-returns : tie.Need-returns
-returns c = rw (c .offset .ensures, c .before .before .old-tuple .ensures, c .before .before .before .before .before .word2 .ensures, c .before .before .before .before .before .before .before .word .ensures)
+flatten-update-requires : tie.Need-flatten-update-requires
+flatten-update-requires c κs = tt
 
-pub update-of-spec : {M : Type 1} → statement M
-update-of-spec =
+if-same-requires : tie.Need-if-same-requires
+if-same-requires c κs = tt
+
+returns : tie.Need-returns
+returns c = rw (c .if-same .ensures, c .before .before .flatten-update .ensures, c .before .before .before .before .offset .ensures, c .before .before .before .before .before .before .old-tuple .ensures, c .before .before .before .before .before .before .before .before .before .word2 .ensures, c .before .before .before .before .before .before .before .before .before .before .before .word .ensures)
+
+pub update-in-spec : {M : Type 1} → statement M
+update-in-spec =
     tie.close
     (tie.spec
     element-copy-out-word
@@ -45,4 +51,6 @@ update-of-spec =
     old-tuple-requires
     element-copy-out-offset
     offset-requires
+    flatten-update-requires
+    if-same-requires
     returns)

@@ -1,6 +1,6 @@
 use borrow.Author.Needs.{needs}
-use Rattle.capi.proofs.unflat.type_of.Statement.{statement}
-use Rattle.capi.proofs.unflat.type_of.Tie as tie
+use Rattle.capi.proofs.unflat.type_in.Statement.{statement}
+use Rattle.capi.proofs.unflat.type_in.Tie as tie
 
 element-copy-out-word : tie.Need-element-copy-out-word
 element-copy-out-word c = search needs
@@ -32,11 +32,17 @@ element-copy-out-span-4 c = search needs
 span-requires-2 : tie.Need-span-requires-2
 span-requires-2 c κs = tt
 
-returns : tie.Need-returns
-returns c = rw (c .span2 .ensures, c .before .before .before .span .ensures, c .before .before .before .before .before .before .word2 .ensures, c .before .before .before .before .before .before .before .before .word .ensures)
+flatten-type-requires : tie.Need-flatten-type-requires
+flatten-type-requires c κs = tt
 
-pub type-of-spec : {M : Type 1} → statement M
-type-of-spec =
+if-same-requires : tie.Need-if-same-requires
+if-same-requires c κs = tt
+
+returns : tie.Need-returns
+returns c = rw (c .if-same .ensures, c .before .before .flatten-type .ensures, c .before .before .before .before .span2 .ensures, c .before .before .before .before .before .before .before .span .ensures, c .before .before .before .before .before .before .before .before .before .before .word2 .ensures, c .before .before .before .before .before .before .before .before .before .before .before .before .word .ensures)
+
+pub type-in-spec : {M : Type 1} → statement M
+type-in-spec =
     tie.close
     (tie.spec
     element-copy-out-word
@@ -49,4 +55,6 @@ type-of-spec =
     element-copy-out-span-3
     element-copy-out-span-4
     span-requires-2
+    flatten-type-requires
+    if-same-requires
     returns)

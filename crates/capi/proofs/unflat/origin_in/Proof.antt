@@ -1,6 +1,6 @@
 use borrow.Author.Needs.{needs}
-use Rattle.capi.proofs.unflat.origin_of.Statement.{statement}
-use Rattle.capi.proofs.unflat.origin_of.Tie as tie
+use Rattle.capi.proofs.unflat.origin_in.Statement.{statement}
+use Rattle.capi.proofs.unflat.origin_in.Tie as tie
 
 element-copy-out-long : tie.Need-element-copy-out-long
 element-copy-out-long c = search needs
@@ -17,11 +17,17 @@ element-copy-out-span-2 c = search needs
 span-requires : tie.Need-span-requires
 span-requires c κs = tt
 
-returns : tie.Need-returns
-returns c = rw (c .span .ensures, c .before .before .before .long .ensures)
+flatten-origin-requires : tie.Need-flatten-origin-requires
+flatten-origin-requires c κs = tt
 
-pub origin-of-spec : {M : Type 1} → statement M
-origin-of-spec =
+if-same-requires : tie.Need-if-same-requires
+if-same-requires c κs = tt
+
+returns : tie.Need-returns
+returns c = rw (c .if-same .ensures, c .before .before .flatten-origin .ensures, c .before .before .before .before .span .ensures, c .before .before .before .before .before .before .before .long .ensures)
+
+pub origin-in-spec : {M : Type 1} → statement M
+origin-in-spec =
     tie.close
     (tie.spec
     element-copy-out-long
@@ -29,4 +35,6 @@ origin-of-spec =
     element-copy-out-span
     element-copy-out-span-2
     span-requires
+    flatten-origin-requires
+    if-same-requires
     returns)

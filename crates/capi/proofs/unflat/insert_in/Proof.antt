@@ -1,6 +1,6 @@
 use borrow.Author.Needs.{needs}
-use Rattle.capi.proofs.unflat.insert_of.Statement.{statement}
-use Rattle.capi.proofs.unflat.insert_of.Tie as tie
+use Rattle.capi.proofs.unflat.insert_in.Statement.{statement}
+use Rattle.capi.proofs.unflat.insert_in.Tie as tie
 
 element-copy-out-word : tie.Need-element-copy-out-word
 element-copy-out-word c = search needs
@@ -20,11 +20,17 @@ element-copy-out-offset c = search needs
 offset-requires : tie.Need-offset-requires
 offset-requires c κs = tt
 
-returns : tie.Need-returns
-returns c = rw (c .offset .ensures, c .before .before .word2 .ensures, c .before .before .before .before .word .ensures)
+flatten-insert-requires : tie.Need-flatten-insert-requires
+flatten-insert-requires c κs = tt
 
-pub insert-of-spec : {M : Type 1} → statement M
-insert-of-spec =
+if-same-requires : tie.Need-if-same-requires
+if-same-requires c κs = tt
+
+returns : tie.Need-returns
+returns c = rw (c .if-same .ensures, c .before .before .flatten-insert .ensures, c .before .before .before .before .offset .ensures, c .before .before .before .before .before .before .word2 .ensures, c .before .before .before .before .before .before .before .before .word .ensures)
+
+pub insert-in-spec : {M : Type 1} → statement M
+insert-in-spec =
     tie.close
     (tie.spec
     element-copy-out-word
@@ -33,4 +39,6 @@ insert-of-spec =
     word-requires-2
     element-copy-out-offset
     offset-requires
+    flatten-insert-requires
+    if-same-requires
     returns)

@@ -1,8 +1,8 @@
 use mir.Syntax.{w64}
 use mir.ValLaws.{toZ-ofZ}
 use borrow.Author.Needs.{needs}
-use Rattle.capi.proofs.unflat.commit_of.Statement.{statement}
-use Rattle.capi.proofs.unflat.commit_of.Tie as tie
+use Rattle.capi.proofs.unflat.commit_in.Statement.{statement}
+use Rattle.capi.proofs.unflat.commit_in.Tie as tie
 
 element-copy-out-byte : tie.Need-element-copy-out-byte
 element-copy-out-byte c = search needs
@@ -31,11 +31,17 @@ long-requires-3 c κs = tt
 signed64-requires : tie.Need-signed64-requires
 signed64-requires c κs = tt
 
-returns : tie.Need-returns
-returns c = rw (toZ-ofZ w64 (c .signed64 .result) (record { sfits = c .signed64 .ok }), c .signed64 .ensures, c .before .long3 .ensures, c .before .before .before .long2 .ensures, c .before .before .before .before .before .long .ensures, c .before .before .before .before .before .before .before .byte .ensures)
+flatten-commit-requires : tie.Need-flatten-commit-requires
+flatten-commit-requires c κs = tt
 
-pub commit-of-spec : {M : Type 1} → statement M
-commit-of-spec =
+if-same-requires : tie.Need-if-same-requires
+if-same-requires c κs = tt
+
+returns : tie.Need-returns
+returns c = rw (c .if-same .ensures, c .before .before .flatten-commit .ensures, toZ-ofZ w64 (c .before .before .before .before .signed64 .result) (record { sfits = c .before .before .before .before .signed64 .ok }), c .before .before .before .before .signed64 .ensures, c .before .before .before .before .before .long3 .ensures, c .before .before .before .before .before .before .before .long2 .ensures, c .before .before .before .before .before .before .before .before .before .long .ensures, c .before .before .before .before .before .before .before .before .before .before .before .byte .ensures)
+
+pub commit-in-spec : {M : Type 1} → statement M
+commit-in-spec =
     tie.close
     (tie.spec
     element-copy-out-byte
@@ -47,4 +53,6 @@ commit-of-spec =
     element-copy-out-long-3
     long-requires-3
     signed64-requires
+    flatten-commit-requires
+    if-same-requires
     returns)

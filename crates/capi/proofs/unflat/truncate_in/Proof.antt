@@ -1,6 +1,6 @@
 use borrow.Author.Needs.{needs}
-use Rattle.capi.proofs.unflat.truncate_of.Statement.{statement}
-use Rattle.capi.proofs.unflat.truncate_of.Tie as tie
+use Rattle.capi.proofs.unflat.truncate_in.Statement.{statement}
+use Rattle.capi.proofs.unflat.truncate_in.Tie as tie
 
 element-copy-out-word : tie.Need-element-copy-out-word
 element-copy-out-word c = search needs
@@ -26,11 +26,17 @@ element-copy-out-offset c = search needs
 offset-requires : tie.Need-offset-requires
 offset-requires c κs = tt
 
-returns : tie.Need-returns
-returns c = rw (c .offset .ensures, c .before .before .byte .ensures, c .before .before .before .before .word2 .ensures, c .before .before .before .before .before .before .word .ensures)
+flatten-truncate-requires : tie.Need-flatten-truncate-requires
+flatten-truncate-requires c κs = tt
 
-pub truncate-of-spec : {M : Type 1} → statement M
-truncate-of-spec =
+if-same-requires : tie.Need-if-same-requires
+if-same-requires c κs = tt
+
+returns : tie.Need-returns
+returns c = rw (c .if-same .ensures, c .before .before .flatten-truncate .ensures, c .before .before .before .before .offset .ensures, c .before .before .before .before .before .before .byte .ensures, c .before .before .before .before .before .before .before .before .word2 .ensures, c .before .before .before .before .before .before .before .before .before .before .word .ensures)
+
+pub truncate-in-spec : {M : Type 1} → statement M
+truncate-in-spec =
     tie.close
     (tie.spec
     element-copy-out-word
@@ -41,4 +47,6 @@ truncate-of-spec =
     byte-requires
     element-copy-out-offset
     offset-requires
+    flatten-truncate-requires
+    if-same-requires
     returns)
