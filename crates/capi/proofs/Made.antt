@@ -44,10 +44,10 @@ made (a.Update m) = go (m .old)
 made (a.Delete m) = refl
 made (a.Truncate m) = refl
 made (a.Message m) = refl
-made (a.StreamStart m) = refl
+made (a.StreamStart xid first) = refl
 made a.StreamStop = refl
 made (a.StreamCommit m) = refl
-made (a.StreamAbort m) = refl
+made (a.StreamAbort xid sub) = refl
 
 -- THE MESSAGE OF A ROW
 

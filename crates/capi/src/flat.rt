@@ -11,9 +11,7 @@ use message::Message;
 use message::OldTuple;
 use message::Origin;
 use message::Relation;
-use message::StreamAbort;
 use message::StreamCommit;
-use message::StreamStart;
 use message::Truncate;
 use message::Type;
 use message::Update;
@@ -152,13 +150,13 @@ pub fn flatten_logical_message(out: &mut [u64; 16], m: LogicalMessage)
     out[7] = m.content.length as u64;
 }
 
-pub fn flatten_stream_start(out: &mut [u64; 16], m: StreamStart)
-    ensures { λ r. ⌜ now (out .exit) ≡ flat (a.StreamStart m) ⌝ }
+pub fn flatten_stream_start(out: &mut [u64; 16], xid: u32, first: u8)
+    ensures { λ r. ⌜ now (out .exit) ≡ flat (a.StreamStart xid first) ⌝ }
 {
     *out = [0; 16];
     out[0] = kind::STREAM_START as u64;
-    out[1] = m.xid as u64;
-    out[2] = m.first as u64;
+    out[1] = xid as u64;
+    out[2] = first as u64;
 }
 
 pub fn flatten_stream_stop(out: &mut [u64; 16])
@@ -180,13 +178,13 @@ pub fn flatten_stream_commit(out: &mut [u64; 16], m: StreamCommit)
     out[5] = wire::bits64(m.time);
 }
 
-pub fn flatten_stream_abort(out: &mut [u64; 16], m: StreamAbort)
-    ensures { λ r. ⌜ now (out .exit) ≡ flat (a.StreamAbort m) ⌝ }
+pub fn flatten_stream_abort(out: &mut [u64; 16], xid: u32, sub_xid: u32)
+    ensures { λ r. ⌜ now (out .exit) ≡ flat (a.StreamAbort xid «sub_xid») ⌝ }
 {
     *out = [0; 16];
     out[0] = kind::STREAM_ABORT as u64;
-    out[1] = m.xid as u64;
-    out[2] = m.sub_xid as u64;
+    out[1] = xid as u64;
+    out[2] = sub_xid as u64;
 }
 
 // Makes `out` the flat form of a message.
@@ -204,9 +202,9 @@ pub fn flatten(out: &mut [u64; 16], m: Message)
         Message::Delete(m) => flatten_delete(out, m),
         Message::Truncate(m) => flatten_truncate(out, m),
         Message::Message(m) => flatten_logical_message(out, m),
-        Message::StreamStart(m) => flatten_stream_start(out, m),
+        Message::StreamStart { xid, first } => flatten_stream_start(out, xid, first),
         Message::StreamStop => flatten_stream_stop(out),
         Message::StreamCommit(m) => flatten_stream_commit(out, m),
-        Message::StreamAbort(m) => flatten_stream_abort(out, m),
+        Message::StreamAbort { xid, sub_xid } => flatten_stream_abort(out, xid, sub_xid),
     }
 }

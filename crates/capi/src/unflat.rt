@@ -15,9 +15,7 @@ use message::Message;
 use message::OldTuple;
 use message::Origin;
 use message::Relation;
-use message::StreamAbort;
 use message::StreamCommit;
-use message::StreamStart;
 use message::Truncate;
 use message::Type;
 use message::Update;
@@ -250,13 +248,11 @@ fn logical_message_in(row: &[u64; 16]) -> Found
 fn stream_start_in(row: &[u64; 16]) -> Found
     ensures { λ r. ⌜ r ≡ whole (now (row .entry)) (messageIn (now (row .entry)) (some streamStart)) ⌝ }
 {
-    let m = StreamStart {
-        xid: word(row[1]),
-        first: byte(row[2]),
-    };
+    let xid = word(row[1]);
+    let first = byte(row[2]);
     let mut again = [0; 16];
-    flat::flatten_stream_start(&mut again, m);
-    if_same(&again, row, Message::StreamStart(m))
+    flat::flatten_stream_start(&mut again, xid, first);
+    if_same(&again, row, Message::StreamStart { xid, first })
 }
 
 fn stream_stop_in(row: &[u64; 16]) -> Found
@@ -285,13 +281,11 @@ fn stream_commit_in(row: &[u64; 16]) -> Found
 fn stream_abort_in(row: &[u64; 16]) -> Found
     ensures { λ r. ⌜ r ≡ whole (now (row .entry)) (messageIn (now (row .entry)) (some streamAbort)) ⌝ }
 {
-    let m = StreamAbort {
-        xid: word(row[1]),
-        sub_xid: word(row[2]),
-    };
+    let xid = word(row[1]);
+    let sub_xid = word(row[2]);
     let mut again = [0; 16];
-    flat::flatten_stream_abort(&mut again, m);
-    if_same(&again, row, Message::StreamAbort(m))
+    flat::flatten_stream_abort(&mut again, xid, sub_xid);
+    if_same(&again, row, Message::StreamAbort { xid, sub_xid })
 }
 
 // The message whose flat form a row is.

@@ -45,10 +45,10 @@ contentsOf (m.Update r) = withTuples (oldOffset (r .old)) (found.At (r .tuple))
 contentsOf (m.Delete r) = withTuples (found.At (r .tuple)) found.Nothing
 contentsOf (m.Truncate r) = record { old = found.Nothing; new = found.Nothing; columns = absent; oids = at (r .relations) (r .count) }
 contentsOf (m.Message r) = withTuples found.Nothing found.Nothing
-contentsOf (m.StreamStart r) = withTuples found.Nothing found.Nothing
+contentsOf (m.StreamStart xid first) = withTuples found.Nothing found.Nothing
 contentsOf m.StreamStop = withTuples found.Nothing found.Nothing
 contentsOf (m.StreamCommit r) = withTuples found.Nothing found.Nothing
-contentsOf (m.StreamAbort r) = withTuples found.Nothing found.Nothing
+contentsOf (m.StreamAbort xid sub) = withTuples found.Nothing found.Nothing
 
 -- at a tuple's first column: behind its count, with as many left as it counts
 unfoldable pub tuplePosition : List ℕ → Found → Started

@@ -165,9 +165,9 @@ fn put_unfit(line: &mut [u8], at: usize, session: Session, m: Message) -> usize 
         Message::Commit(_) => {
             text::put_lsn(line, at, b": the Begin's final LSN is ", session.final_lsn)
         }
-        Message::StreamStart(x) => put_unfit_xid(line, at, x.xid, x.first == 1),
+        Message::StreamStart { xid, first } => put_unfit_xid(line, at, xid, first == 1),
         Message::StreamCommit(x) => put_unfit_xid(line, at, x.xid, false),
-        Message::StreamAbort(x) => put_unfit_xid(line, at, x.xid, false),
+        Message::StreamAbort { xid, .. } => put_unfit_xid(line, at, xid, false),
         _ => at,
     }
 }

@@ -19,9 +19,7 @@ use message::OldTuple;
 use message::Origin;
 use message::Read;
 use message::Relation;
-use message::StreamAbort;
 use message::StreamCommit;
-use message::StreamStart;
 use message::Truncate;
 use message::Type;
 use message::Update;
@@ -329,9 +327,9 @@ fn put_logical_message(line: &mut [u8], at: usize, x: LogicalMessage, bytes: &[u
     put_part(line, at, b", content ", bytes, x.content)
 }
 
-fn put_stream_start(line: &mut [u8], at: usize, x: StreamStart) -> usize {
-    let at = text::put_number(line, at, b" xid ", x.xid as u64);
-    text::put_if(line, at, x.first == 1, b" first")
+fn put_stream_start(line: &mut [u8], at: usize, xid: u32, first: u8) -> usize {
+    let at = text::put_number(line, at, b" xid ", xid as u64);
+    text::put_if(line, at, first == 1, b" first")
 }
 
 fn put_stream_commit(line: &mut [u8], at: usize, x: StreamCommit) -> usize {
@@ -341,9 +339,9 @@ fn put_stream_commit(line: &mut [u8], at: usize, x: StreamCommit) -> usize {
     time::put_time(line, at, b", time ", x.time)
 }
 
-fn put_stream_abort(line: &mut [u8], at: usize, x: StreamAbort) -> usize {
-    let at = text::put_number(line, at, b" xid ", x.xid as u64);
-    text::put_number(line, at, b", sub-xid ", x.sub_xid as u64)
+fn put_stream_abort(line: &mut [u8], at: usize, xid: u32, sub_xid: u32) -> usize {
+    let at = text::put_number(line, at, b" xid ", xid as u64);
+    text::put_number(line, at, b", sub-xid ", sub_xid as u64)
 }
 
 fn put_fields(line: &mut [u8], at: usize, m: Message, bytes: &[u8]) -> usize {
@@ -358,10 +356,10 @@ fn put_fields(line: &mut [u8], at: usize, m: Message, bytes: &[u8]) -> usize {
         Message::Delete(x) => put_delete(line, at, x, bytes),
         Message::Truncate(x) => put_truncate(line, at, x, bytes),
         Message::Message(x) => put_logical_message(line, at, x, bytes),
-        Message::StreamStart(x) => put_stream_start(line, at, x),
+        Message::StreamStart { xid, first } => put_stream_start(line, at, xid, first),
         Message::StreamStop => at,
         Message::StreamCommit(x) => put_stream_commit(line, at, x),
-        Message::StreamAbort(x) => put_stream_abort(line, at, x),
+        Message::StreamAbort { xid, sub_xid } => put_stream_abort(line, at, xid, sub_xid),
     }
 }
 

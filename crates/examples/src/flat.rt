@@ -15,9 +15,7 @@ use message::OldTuple;
 use message::Origin;
 use message::Read;
 use message::Relation;
-use message::StreamAbort;
 use message::StreamCommit;
-use message::StreamStart;
 use message::Truncate;
 use message::Type;
 use message::Update;
@@ -173,8 +171,8 @@ fn logical_message(m: LogicalMessage) -> List {
         .span(m.content)
 }
 
-fn stream_start(m: StreamStart) -> List {
-    List::new(b'S').word(m.xid).byte(m.first)
+fn stream_start(xid: u32, first: u8) -> List {
+    List::new(b'S').word(xid).byte(first)
 }
 
 fn stream_commit(m: StreamCommit) -> List {
@@ -186,8 +184,8 @@ fn stream_commit(m: StreamCommit) -> List {
         .time(m.time)
 }
 
-fn stream_abort(m: StreamAbort) -> List {
-    List::new(b'A').word(m.xid).word(m.sub_xid)
+fn stream_abort(xid: u32, sub_xid: u32) -> List {
+    List::new(b'A').word(xid).word(sub_xid)
 }
 
 fn message(m: Message, bytes: &[u8]) -> List {
@@ -202,10 +200,10 @@ fn message(m: Message, bytes: &[u8]) -> List {
         Message::Delete(m) => delete(m, bytes),
         Message::Truncate(m) => truncate(m),
         Message::Message(m) => logical_message(m),
-        Message::StreamStart(m) => stream_start(m),
+        Message::StreamStart { xid, first } => stream_start(xid, first),
         Message::StreamStop => List::new(b'E'),
         Message::StreamCommit(m) => stream_commit(m),
-        Message::StreamAbort(m) => stream_abort(m),
+        Message::StreamAbort { xid, sub_xid } => stream_abort(xid, sub_xid),
     }
 }
 

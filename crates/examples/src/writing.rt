@@ -9,9 +9,7 @@ use message::Message;
 use message::OldTuple;
 use message::Origin;
 use message::Relation;
-use message::StreamAbort;
 use message::StreamCommit;
-use message::StreamStart;
 use message::Truncate;
 use message::Type;
 use message::Update;
@@ -297,17 +295,17 @@ fn stream_commit(n: [u64; 10]) -> Message {
 }
 
 fn stream_start(n: [u64; 10]) -> Message {
-    Message::StreamStart(StreamStart {
+    Message::StreamStart {
         xid: word(n[1]),
         first: byte(n[2]),
-    })
+    }
 }
 
 fn stream_abort(n: [u64; 10]) -> Message {
-    Message::StreamAbort(StreamAbort {
+    Message::StreamAbort {
         xid: word(n[1]),
         sub_xid: word(n[2]),
-    })
+    }
 }
 
 // The message of a kind with these numbers behind the first.

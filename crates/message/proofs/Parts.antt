@@ -104,10 +104,10 @@ TimeFits (a.Update m) = Unit {0}
 TimeFits (a.Delete m) = Unit {0}
 TimeFits (a.Truncate m) = Unit {0}
 TimeFits (a.Message m) = Unit {0}
-TimeFits (a.StreamStart m) = Unit {0}
+TimeFits (a.StreamStart xid first) = Unit {0}
 TimeFits a.StreamStop = Unit {0}
 TimeFits (a.StreamCommit m) = SFits w64 (m .time)
-TimeFits (a.StreamAbort m) = Unit {0}
+TimeFits (a.StreamAbort xid sub) = Unit {0}
 
 pub message-back : (m : Message) → TimeFits m → messageOf (kindOfMessage m) (partsOf m) ≡ m
 message-back (a.Begin m) f = rw (toZ-ofZ w64 (m .time) f)
@@ -125,7 +125,7 @@ message-back (a.Update m) f = go (m .old)
 message-back (a.Delete m) f = refl
 message-back (a.Truncate m) f = refl
 message-back (a.Message m) f = refl
-message-back (a.StreamStart m) f = refl
+message-back (a.StreamStart xid first) f = refl
 message-back a.StreamStop f = refl
 message-back (a.StreamCommit m) f = rw (toZ-ofZ w64 (m .time) f)
-message-back (a.StreamAbort m) f = refl
+message-back (a.StreamAbort xid sub) f = refl

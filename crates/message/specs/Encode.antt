@@ -39,10 +39,10 @@ kindOfMessage (a.Update m) = update
 kindOfMessage (a.Delete m) = delete
 kindOfMessage (a.Truncate m) = truncate
 kindOfMessage (a.Message m) = message
-kindOfMessage (a.StreamStart m) = streamStart
+kindOfMessage (a.StreamStart xid first) = streamStart
 kindOfMessage a.StreamStop = streamStop
 kindOfMessage (a.StreamCommit m) = streamCommit
-kindOfMessage (a.StreamAbort m) = streamAbort
+kindOfMessage (a.StreamAbort xid sub) = streamAbort
 
 abbrev pub only : ℕ → List ℕ
 only n = n ∷ []
@@ -68,7 +68,7 @@ partsOf (a.Update m) = only (m .xid) ∷ only (m .relation) ∷ oldNumbers (m .o
 partsOf (a.Delete m) = only (m .xid) ∷ only (m .relation) ∷ only (m .image) ∷ only (m .tuple) ∷ []
 partsOf (a.Truncate m) = only (m .xid) ∷ (m .count ∷ m .options ∷ m .relations ∷ []) ∷ []
 partsOf (a.Message m) = only (m .xid) ∷ only (m .flags) ∷ only (m .lsn) ∷ ends (m .prefix) ∷ ends (m .content) ∷ []
-partsOf (a.StreamStart m) = only (m .xid) ∷ only (m .first) ∷ []
+partsOf (a.StreamStart xid first) = only xid ∷ only first ∷ []
 partsOf a.StreamStop = []
 partsOf (a.StreamCommit m) = only (m .xid) ∷ only (m .flags) ∷ only (m .«commit_lsn») ∷ only (m .«end_lsn») ∷ only (ofZ w64 (m .time)) ∷ []
-partsOf (a.StreamAbort m) = only (m .xid) ∷ only (m .«sub_xid») ∷ []
+partsOf (a.StreamAbort xid sub) = only xid ∷ only sub ∷ []

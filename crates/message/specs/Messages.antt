@@ -53,10 +53,10 @@ messageOf update v = a.Update (record { xid = num v 0; relation = num v 1; old =
 messageOf delete v = a.Delete (record { xid = num v 0; relation = num v 1; image = num v 2; tuple = num v 3 })
 messageOf truncate v = a.Truncate (record { xid = num v 0; count = num v 1; options = at v 1 1; relations = at v 1 2 })
 messageOf message v = a.Message (record { xid = num v 0; flags = num v 1; lsn = num v 2; prefix = span v 3; content = span v 4 })
-messageOf streamStart v = a.StreamStart (record { xid = num v 0; first = num v 1 })
+messageOf streamStart v = a.StreamStart (num v 0) (num v 1)
 messageOf streamStop v = a.StreamStop
 messageOf streamCommit v = a.StreamCommit (record { xid = num v 0; flags = num v 1; «commit_lsn» = num v 2; «end_lsn» = num v 3; time = toZ w64 (num v 4) })
-messageOf streamAbort v = a.StreamAbort (record { xid = num v 0; «sub_xid» = num v 1 })
+messageOf streamAbort v = a.StreamAbort (num v 0) (num v 1)
 
 -- READING
 

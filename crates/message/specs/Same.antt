@@ -55,10 +55,10 @@ module _ (xs : List ℕ) where
   contents (a.Delete m) = num (m .xid) ∷ num (m .relation) ∷ num (m .image) ∷ tuple (m .tuple) ∷ []
   contents (a.Truncate m) = num (m .xid) ∷ num (m .count) ∷ num (m .options) ∷ oids (m .count) (m .relations) ∷ []
   contents (a.Message m) = num (m .xid) ∷ num (m .flags) ∷ num (m .lsn) ∷ text (m .prefix) ∷ text (m .content) ∷ []
-  contents (a.StreamStart m) = num (m .xid) ∷ num (m .first) ∷ []
+  contents (a.StreamStart xid first) = num xid ∷ num first ∷ []
   contents a.StreamStop = []
   contents (a.StreamCommit m) = num (m .xid) ∷ num (m .flags) ∷ num (m .«commit_lsn») ∷ num (m .«end_lsn») ∷ time (m .time) ∷ []
-  contents (a.StreamAbort m) = num (m .xid) ∷ num (m .«sub_xid») ∷ []
+  contents (a.StreamAbort xid sub) = num xid ∷ num sub ∷ []
 
 -- one kind, and the same numbers, texts and columns: m with its parts in xs, m′ with its parts in ys
 pub record SameMessage (m : Message) (xs : List ℕ) (m′ : Message) (ys : List ℕ) : Type 0 where

@@ -149,11 +149,6 @@ pub struct LogicalMessage {
     pub content: Span,
 }
 
-pub struct StreamStart {
-    pub xid: u32,
-    pub first: u8,
-}
-
 pub struct StreamCommit {
     pub xid: u32,
     pub flags: u8,
@@ -162,11 +157,8 @@ pub struct StreamCommit {
     pub time: i64,
 }
 
-pub struct StreamAbort {
-    pub xid: u32,
-    pub sub_xid: u32,
-}
-
+// Stream Start's and Stream Abort's fields are held directly: as structs of eight bytes they would make every message be copied through
+// memory.
 pub enum Message {
     Begin(Begin),
     Commit(Commit),
@@ -178,10 +170,10 @@ pub enum Message {
     Delete(Delete),
     Truncate(Truncate),
     Message(LogicalMessage),
-    StreamStart(StreamStart),
+    StreamStart { xid: u32, first: u8 },
     StreamStop,
     StreamCommit(StreamCommit),
-    StreamAbort(StreamAbort),
+    StreamAbort { xid: u32, sub_xid: u32 },
 }
 
 // What reading gives.

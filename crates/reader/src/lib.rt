@@ -18,9 +18,7 @@ use message::OldTuple;
 use message::Origin;
 use message::Read;
 use message::Relation;
-use message::StreamAbort;
 use message::StreamCommit;
-use message::StreamStart;
 use message::Truncate;
 use message::Type;
 use message::Update;
@@ -469,7 +467,7 @@ fn read_stream_start(s: &[u8]) -> Read
     let next = Cursor::At(1);
     let Field32 { value: xid, next } = wire::number32(s, next, 1, MAX32, Refusal::FIELD);
     let Field8 { value: first, next } = wire::number8(s, next, 0, 1, Refusal::FIELD);
-    settle(s, next, Message::StreamStart(StreamStart { xid, first }))
+    settle(s, next, Message::StreamStart { xid, first })
 }
 
 fn read_stream_stop(s: &[u8]) -> Read
@@ -516,7 +514,7 @@ fn read_stream_abort(s: &[u8]) -> Read
         value: sub_xid,
         next,
     } = wire::number32(s, next, 1, MAX32, Refusal::FIELD);
-    settle(s, next, Message::StreamAbort(StreamAbort { xid, sub_xid }))
+    settle(s, next, Message::StreamAbort { xid, sub_xid })
 }
 
 fn refused(number: u8) -> Read

@@ -33,10 +33,10 @@ neutral-event xs (m.Update r) k = absurd (miss neutrals 6 tt k)
 neutral-event xs (m.Delete r) k = absurd (miss neutrals 7 tt k)
 neutral-event xs (m.Truncate r) k = absurd (miss neutrals 8 tt k)
 neutral-event xs (m.Message r) k = refl
-neutral-event xs (m.StreamStart r) k = absurd (miss neutrals 10 tt k)
+neutral-event xs (m.StreamStart xid first) k = absurd (miss neutrals 10 tt k)
 neutral-event xs m.StreamStop k = absurd (miss neutrals 11 tt k)
 neutral-event xs (m.StreamCommit r) k = absurd (miss neutrals 12 tt k)
-neutral-event xs (m.StreamAbort r) k = absurd (miss neutrals 13 tt k)
+neutral-event xs (m.StreamAbort xid sub) k = absurd (miss neutrals 13 tt k)
 
 -- neither B, C, S nor E
 abbrev staying : List ℕ

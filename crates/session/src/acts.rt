@@ -86,16 +86,13 @@ pub fn act_of(m: Message, bytes: &[u8]) -> Act
             start: x.relations,
             count: x.count,
         },
-        Message::StreamStart(x) => Act::StreamStart {
-            xid: x.xid,
-            first: x.first == 1,
+        Message::StreamStart { xid, first } => Act::StreamStart {
+            xid,
+            first: first == 1,
         },
         Message::StreamStop => Act::StreamStop,
         Message::StreamCommit(x) => Act::StreamCommit { xid: x.xid },
-        Message::StreamAbort(x) => Act::StreamAbort {
-            xid: x.xid,
-            sub: x.sub_xid,
-        },
+        Message::StreamAbort { xid, sub_xid } => Act::StreamAbort { xid, sub: sub_xid },
         _ => Act::Neutral,
     }
 }

@@ -25,9 +25,7 @@ use message::Message;
 use message::OldTuple;
 use message::Origin;
 use message::Relation;
-use message::StreamAbort;
 use message::StreamCommit;
-use message::StreamStart;
 use message::Truncate;
 use message::Type;
 use message::Update;
@@ -850,20 +848,18 @@ fn write_logical_message(
     }
 }
 
-fn store_stream_start(out: &mut [u8], m: StreamStart)
-    requires { ⌜ length (bytesOf (messagePieces false (a.StreamStart m) [])) ≤ length (now out) ⌝ }
-    ensures { λ r. ⌜ Stored (bytesOf (messagePieces false (a.StreamStart m) [])) (now (out .entry)) (now (out .exit)) ⌝ }
+fn store_stream_start(out: &mut [u8], xid: u32, first: u8)
+    requires { ⌜ length (bytesOf (messagePieces false (a.StreamStart xid first) [])) ≤ length (now out) ⌝ }
+    ensures { λ r. ⌜ Stored (bytesOf (messagePieces false (a.StreamStart xid first) [])) (now (out .entry)) (now (out .exit)) ⌝ }
 {
-    let StreamStart { xid, first } = m;
     let at = put_byte(out, 0, b'S');
     let at = put_number(out, at, 4, xid as u64);
     put_number(out, at, 1, first as u64);
 }
 
-fn write_stream_start(out: &mut [u8], m: StreamStart) -> Written
-    ensures { λ r. ⌜ Settles (fieldsWritten false (a.StreamStart m) []) (now (out .entry)) r (now (out .exit)) ⌝ }
+fn write_stream_start(out: &mut [u8], xid: u32, first: u8) -> Written
+    ensures { λ r. ⌜ Settles (fieldsWritten false (a.StreamStart xid first) []) (now (out .entry)) r (now (out .exit)) ⌝ }
 {
-    let StreamStart { xid, first } = m;
     let next = Cursor::At(1);
     let next = advance(next, 0, judge_id(xid));
     let next = advance(next, 0, judge_number(1, 0, 1, Refusal::FIELD, first as u64));
@@ -871,7 +867,7 @@ fn write_stream_start(out: &mut [u8], m: StreamStart) -> Written
     match next {
         Cursor::Refused { number, offset } => refused(number, offset),
         Cursor::At(n) => {
-            store_stream_start(out, m);
+            store_stream_start(out, xid, first);
             Written::Length(n)
         }
     }
@@ -943,20 +939,18 @@ fn write_stream_commit(out: &mut [u8], m: StreamCommit) -> Written
     }
 }
 
-fn store_stream_abort(out: &mut [u8], m: StreamAbort)
-    requires { ⌜ length (bytesOf (messagePieces false (a.StreamAbort m) [])) ≤ length (now out) ⌝ }
-    ensures { λ r. ⌜ Stored (bytesOf (messagePieces false (a.StreamAbort m) [])) (now (out .entry)) (now (out .exit)) ⌝ }
+fn store_stream_abort(out: &mut [u8], xid: u32, sub_xid: u32)
+    requires { ⌜ length (bytesOf (messagePieces false (a.StreamAbort xid «sub_xid») [])) ≤ length (now out) ⌝ }
+    ensures { λ r. ⌜ Stored (bytesOf (messagePieces false (a.StreamAbort xid «sub_xid») [])) (now (out .entry)) (now (out .exit)) ⌝ }
 {
-    let StreamAbort { xid, sub_xid } = m;
     let at = put_byte(out, 0, b'A');
     let at = put_number(out, at, 4, xid as u64);
     put_number(out, at, 4, sub_xid as u64);
 }
 
-fn write_stream_abort(out: &mut [u8], m: StreamAbort) -> Written
-    ensures { λ r. ⌜ Settles (fieldsWritten false (a.StreamAbort m) []) (now (out .entry)) r (now (out .exit)) ⌝ }
+fn write_stream_abort(out: &mut [u8], xid: u32, sub_xid: u32) -> Written
+    ensures { λ r. ⌜ Settles (fieldsWritten false (a.StreamAbort xid «sub_xid») []) (now (out .entry)) r (now (out .exit)) ⌝ }
 {
-    let StreamAbort { xid, sub_xid } = m;
     let next = Cursor::At(1);
     let next = advance(next, 0, judge_id(xid));
     let next = advance(next, 0, judge_id(sub_xid));
@@ -964,7 +958,7 @@ fn write_stream_abort(out: &mut [u8], m: StreamAbort) -> Written
     match next {
         Cursor::Refused { number, offset } => refused(number, offset),
         Cursor::At(n) => {
-            store_stream_abort(out, m);
+            store_stream_abort(out, xid, sub_xid);
             Written::Length(n)
         }
     }
@@ -985,10 +979,10 @@ fn kind_of(m: Message) -> u8
         Message::Delete(_) => kind::DELETE,
         Message::Truncate(_) => kind::TRUNCATE,
         Message::Message(_) => kind::MESSAGE,
-        Message::StreamStart(_) => kind::STREAM_START,
+        Message::StreamStart { .. } => kind::STREAM_START,
         Message::StreamStop => kind::STREAM_STOP,
         Message::StreamCommit(_) => kind::STREAM_COMMIT,
-        Message::StreamAbort(_) => kind::STREAM_ABORT,
+        Message::StreamAbort { .. } => kind::STREAM_ABORT,
     }
 }
 
@@ -1007,10 +1001,10 @@ fn write_fields(out: &mut [u8], m: Message, source: &[u8], in_block: bool) -> Wr
         Message::Delete(x) => write_delete(out, x, source, in_block),
         Message::Truncate(x) => write_truncate(out, x, source, in_block),
         Message::Message(x) => write_logical_message(out, x, source, in_block),
-        Message::StreamStart(x) => write_stream_start(out, x),
+        Message::StreamStart { xid, first } => write_stream_start(out, xid, first),
         Message::StreamStop => write_stream_stop(out),
         Message::StreamCommit(x) => write_stream_commit(out, x),
-        Message::StreamAbort(x) => write_stream_abort(out, x),
+        Message::StreamAbort { xid, sub_xid } => write_stream_abort(out, xid, sub_xid),
     }
 }
 

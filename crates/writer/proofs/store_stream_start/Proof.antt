@@ -13,15 +13,9 @@ use Rattle.writer.proofs.store_stream_start.Tie as tie
 put-byte-requires : tie.Need-put-byte-requires
 put-byte-requires c κs = search needs
 
-cast-put-number : tie.Need-cast-put-number
-cast-put-number c = search needs
-
 put-number-requires : tie.Need-put-number-requires
 put-number-requires c κs =
     omega (arith, simp (length-append, length-digits) at (c .before .before .before .before .before .before .pre))
-
-cast-put-number-2 : tie.Need-cast-put-number-2
-cast-put-number-2 c = search needs
 
 put-number-requires-2 : tie.Need-put-number-requires-2
 put-number-requires-2 c κs =
@@ -36,7 +30,7 @@ same-length c = search needs
 returns : tie.Need-returns
 returns c =
     let s = c .before .before .before .before .before .before .before .before .before .before .before .before .before in
-    stored-all (messagePieces false (a.StreamStart (s .args .m)) []) (s .args .out .now) (s .pre)
+    stored-all (messagePieces false (a.StreamStart (s .args .xid) (s .args .first)) []) (s .args .out .now) (s .pre)
     (c .before .before .put-number2 .result)
     (rw (
       c .before .before .put-number2 .ensures .0,
@@ -49,9 +43,7 @@ store-stream-start-spec =
     tie.close
     (tie.spec
     put-byte-requires
-    cast-put-number
     put-number-requires
-    cast-put-number-2
     put-number-requires-2
     same-length
     returns)

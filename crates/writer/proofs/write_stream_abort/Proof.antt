@@ -10,7 +10,7 @@ use Rattle.writer.proofs.write_stream_abort.Statement.{statement}
 use Rattle.writer.proofs.write_stream_abort.Tie as tie
 
 -- the judgement of the fields
-judged : (c : tie.After-fit) → (let s = c .before .before .before .before .before .before in c .before .advance2 .result ≡ steps (messagePieces false (a.StreamAbort (s .args .m)) []) (At 0))
+judged : (c : tie.After-fit) → (let s = c .before .before .before .before .before .before in c .before .advance2 .result ≡ steps (messagePieces false (a.StreamAbort (s .args .xid) (s .args .sub-xid)) []) (At 0))
 judged c =
     rw (
       c .before .advance2 .ensures,
@@ -47,13 +47,13 @@ enum-known-next-2 c = search needs
 store-stream-abort-requires : tie.Need-store-stream-abort-requires
 store-stream-abort-requires c κs =
     let s = c .before .before .before .before .before .before .before .before .before .before in
-    has-room false (a.StreamAbort (s .args .m)) [] (s .args .out .now)
+    has-room false (a.StreamAbort (s .args .xid) (s .args .sub-xid)) [] (s .args .out .now)
     (judged (c .before .before .before .before)) (c .before .before .before .before .fit .ensures) (c .before .before .next2 .given .1)
 
 returns : tie.Need-returns
 returns c =
     let s = c .before .before .before .before .before .before .before .before .before .before in
-    refuse false (a.StreamAbort (s .args .m)) [] (s .args .out .now)
+    refuse false (a.StreamAbort (s .args .xid) (s .args .sub-xid)) [] (s .args .out .now)
     (judged (c .before .before .before .before)) (c .before .before .before .before .fit .ensures)
     (c .before .before .next .given .1) (c .refused .ensures)
 
@@ -63,7 +63,7 @@ same-length c = search needs
 returns-2 : tie.Need-returns-2
 returns-2 c =
     let s = c .before .before .before .before .before .before .before .before .before .before .before .before .before in
-    accept false (a.StreamAbort (s .args .m)) [] (s .args .out .now)
+    accept false (a.StreamAbort (s .args .xid) (s .args .sub-xid)) [] (s .args .out .now)
     (judged (c .before .before .before .before .before .before .before)) (c .before .before .before .before .before .before .before .fit .ensures)
     (c .before .before .before .before .before .next2 .given .1) (c .before .before .store-stream-abort .ensures)
 

@@ -10,7 +10,7 @@ use Rattle.writer.proofs.write_stream_start.Statement.{statement}
 use Rattle.writer.proofs.write_stream_start.Tie as tie
 
 -- the judgement of the fields
-judged : (c : tie.After-fit) → (let s = c .before .before .before .before .before .before in c .before .advance2 .result ≡ steps (messagePieces false (a.StreamStart (s .args .m)) []) (At 0))
+judged : (c : tie.After-fit) → (let s = c .before .before .before .before .before .before in c .before .advance2 .result ≡ steps (messagePieces false (a.StreamStart (s .args .xid) (s .args .first)) []) (At 0))
 judged c =
     rw (
       c .before .advance2 .ensures,
@@ -25,9 +25,6 @@ judge-id-requires c κs = tt
 
 advance-requires : tie.Need-advance-requires
 advance-requires c κs = tt
-
-cast-judge-number : tie.Need-cast-judge-number
-cast-judge-number c = search needs
 
 judge-number-requires : tie.Need-judge-number-requires
 judge-number-requires c κs = tt
@@ -50,13 +47,13 @@ enum-known-next-2 c = search needs
 store-stream-start-requires : tie.Need-store-stream-start-requires
 store-stream-start-requires c κs =
     let s = c .before .before .before .before .before .before .before .before .before .before in
-    has-room false (a.StreamStart (s .args .m)) [] (s .args .out .now)
+    has-room false (a.StreamStart (s .args .xid) (s .args .first)) [] (s .args .out .now)
     (judged (c .before .before .before .before)) (c .before .before .before .before .fit .ensures) (c .before .before .next2 .given .1)
 
 returns : tie.Need-returns
 returns c =
     let s = c .before .before .before .before .before .before .before .before .before .before in
-    refuse false (a.StreamStart (s .args .m)) [] (s .args .out .now)
+    refuse false (a.StreamStart (s .args .xid) (s .args .first)) [] (s .args .out .now)
     (judged (c .before .before .before .before)) (c .before .before .before .before .fit .ensures)
     (c .before .before .next .given .1) (c .refused .ensures)
 
@@ -66,7 +63,7 @@ same-length c = search needs
 returns-2 : tie.Need-returns-2
 returns-2 c =
     let s = c .before .before .before .before .before .before .before .before .before .before .before .before .before in
-    accept false (a.StreamStart (s .args .m)) [] (s .args .out .now)
+    accept false (a.StreamStart (s .args .xid) (s .args .first)) [] (s .args .out .now)
     (judged (c .before .before .before .before .before .before .before)) (c .before .before .before .before .before .before .before .fit .ensures)
     (c .before .before .before .before .before .next2 .given .1) (c .before .before .store-stream-start .ensures)
 
@@ -76,7 +73,6 @@ write-stream-start-spec =
     (tie.spec
     judge-id-requires
     advance-requires
-    cast-judge-number
     judge-number-requires
     advance-requires-2
     fit-requires

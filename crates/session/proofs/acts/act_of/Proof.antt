@@ -80,7 +80,7 @@ returns-8 : tie.Need-returns-8
 returns-8 c = rw (c .before .m7 .given .1)
 
 returns-9 : tie.Need-returns-9
-returns-9 c = rw (c .before .before .m8 .given .1)
+returns-9 c = rw (c .before .m8 .given .1)
 
 returns-10 : tie.Need-returns-10
 returns-10 c = search needs
