@@ -105,7 +105,7 @@ fn columns_exact(s: &[u8], c: Cursor, n: u16) -> Cursor
     at
 }
 
-// The end of a column that is good, else 0: most columns are texts. In a message no length is too large for its sign.
+// The end of a column that is good, else 0. In a message no length is too large for its sign.
 fn column_fast(s: &[u8], at: usize) -> usize
     requires { ⌜ length (now s) ≤ 0x7FFFFFFF ⌝ }
     ensures { λ r. ⌜ (0 < r → columnEnd (now (s .entry)) (At at) ≡ At r) ⌝ }
@@ -114,83 +114,47 @@ fn column_fast(s: &[u8], at: usize) -> usize
         return 0;
     }
     let next = at + 1;
-    let letter = s[at];
-    if letter == b't' {
-        return wire::value_end(s, next);
-    }
-    match letter {
+    match s[at] {
         b'n' | b'u' => next,
-        b'b' => wire::value_end(s, next),
+        b't' | b'b' => wire::value_end(s, next),
         _ => 0,
     }
 }
 
-// The end of `n` columns that are good, else 0.
-fn columns_fast(s: &[u8], start: usize, n: u16) -> usize
-    requires { ⌜ length (now s) ≤ 0x7FFFFFFF ⌝ }
-    ensures { λ r. ⌜ (0 < r → groupsEnd (column ∷ []) (now (s .entry)) n (At start) ≡ At r) ⌝ }
-{
-    let mut left = n;
-    let mut at = start;
-    while 0 < left {
-        let e = column_fast(s, at);
-        if e == 0 {
-            return 0;
-        }
-        at = e;
-        left -= 1;
-    }
-    at
-}
-
-// The end of a tuple that is good, its count included, else 0.
-fn tuple_fast(s: &[u8], start: usize) -> usize
-    ensures { λ r. ⌜ (0 < r → tupleEnd (now (s .entry)) (At start) ≡ At r) ⌝ }
+// The end of `n` columns: the good path as far as it goes, and the exact one from there.
+fn tuple_columns(s: &[u8], c: Cursor, n: u16) -> Cursor
+    ensures { λ r. ⌜ r ≡ groupsEnd (column ∷ []) (now (s .entry)) n c ⌝ }
 {
     if 0x7FFF_FFFF < s.len() {
-        return 0;
+        return columns_exact(s, c, n);
     }
-    let Field16 { value, next } = wire::number16(
-        s,
-        Cursor::At(start),
-        0,
-        MOST_COLUMNS,
-        Refusal::RANGE,
-    );
-    match next {
-        Cursor::At(at) => columns_fast(s, at, value),
+    match c {
         Cursor::Refused {
             number: _,
             offset: _,
-        } => 0,
+        } => columns_exact(s, c, n),
+        Cursor::At(start) => {
+            let mut left = n;
+            let mut at = start;
+            while 0 < left {
+                let e = column_fast(s, at);
+                if e == 0 {
+                    return columns_exact(s, Cursor::At(at), left);
+                }
+                at = e;
+                left -= 1;
+            }
+            Cursor::At(at)
+        }
     }
 }
 
-// The end of a tuple, or why and where it is refused.
-fn tuple_exact(s: &[u8], c: Cursor) -> Cursor
-    ensures { λ r. ⌜ r ≡ tupleEnd (now (s .entry)) c ⌝ }
-{
-    let Field16 { value, next } = wire::number16(s, c, 0, MOST_COLUMNS, Refusal::RANGE);
-    columns_exact(s, next, value)
-}
-
-// The end of a tuple, its count included: the good path on plain offsets, and the exact one where that fails.
+// The end of a tuple, its count included.
 pub fn tuple_end(s: &[u8], c: Cursor) -> Cursor
     ensures { λ r. ⌜ r ≡ tupleEnd (now (s .entry)) c ⌝ }
 {
-    match c {
-        Cursor::At(at) => {
-            let e = tuple_fast(s, at);
-            if e == 0 {
-                return tuple_exact(s, c);
-            }
-            Cursor::At(e)
-        }
-        Cursor::Refused {
-            number: _,
-            offset: _,
-        } => tuple_exact(s, c),
-    }
+    let Field16 { value, next } = wire::number16(s, c, 0, MOST_COLUMNS, Refusal::RANGE);
+    tuple_columns(s, next, value)
 }
 
 // The old tuple of an Update, where `K` or `O` stands.
