@@ -227,7 +227,7 @@ pub fn relation_oids(s: &[u8], c: Cursor, n: u32) -> Cursor
     at
 }
 
-fn read_begin(s: &[u8]) -> Read
+pub fn read_begin(s: &[u8]) -> Read
     ensures { λ r. ⌜ r ≡ readKind begin false (now (s .entry)) ⌝ }
 {
     let next = Cursor::At(1);
@@ -249,7 +249,7 @@ fn read_begin(s: &[u8]) -> Read
     )
 }
 
-fn read_commit(s: &[u8]) -> Read
+pub fn read_commit(s: &[u8]) -> Read
     ensures { λ r. ⌜ r ≡ readKind commit false (now (s .entry)) ⌝ }
 {
     let next = Cursor::At(1);
@@ -342,7 +342,7 @@ fn read_type(s: &[u8], in_block: bool) -> Read
     )
 }
 
-fn read_insert(s: &[u8], in_block: bool) -> Read
+pub fn read_insert(s: &[u8], in_block: bool) -> Read
     ensures { λ r. ⌜ r ≡ readKind insert «in_block» (now (s .entry)) ⌝ }
 {
     let Field32 { value: xid, next } = block_xid(s, Cursor::At(1), in_block);
@@ -364,7 +364,7 @@ fn read_insert(s: &[u8], in_block: bool) -> Read
     )
 }
 
-fn read_update(s: &[u8], in_block: bool) -> Read
+pub fn read_update(s: &[u8], in_block: bool) -> Read
     ensures { λ r. ⌜ r ≡ readKind update «in_block» (now (s .entry)) ⌝ }
 {
     let Field32 { value: xid, next } = block_xid(s, Cursor::At(1), in_block);
@@ -388,7 +388,7 @@ fn read_update(s: &[u8], in_block: bool) -> Read
     )
 }
 
-fn read_delete(s: &[u8], in_block: bool) -> Read
+pub fn read_delete(s: &[u8], in_block: bool) -> Read
     ensures { λ r. ⌜ r ≡ readKind delete «in_block» (now (s .entry)) ⌝ }
 {
     let Field32 { value: xid, next } = block_xid(s, Cursor::At(1), in_block);

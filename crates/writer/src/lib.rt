@@ -402,7 +402,7 @@ fn store_begin(out: &mut [u8], m: Begin)
     put_number(out, at, 4, xid as u64);
 }
 
-fn write_begin(out: &mut [u8], m: Begin) -> Written
+pub fn write_begin(out: &mut [u8], m: Begin) -> Written
     ensures { λ r. ⌜ Settles (fieldsWritten false (a.Begin m) []) (now (out .entry)) r (now (out .exit)) ⌝ }
 {
     let Begin {
@@ -449,7 +449,7 @@ fn store_commit(out: &mut [u8], m: Commit)
     put_number(out, at, 8, wire::bits64(time));
 }
 
-fn write_commit(out: &mut [u8], m: Commit) -> Written
+pub fn write_commit(out: &mut [u8], m: Commit) -> Written
     ensures { λ r. ⌜ Settles (fieldsWritten false (a.Commit m) []) (now (out .entry)) r (now (out .exit)) ⌝ }
 {
     let Commit {
@@ -491,7 +491,7 @@ fn store_origin(out: &mut [u8], m: Origin, source: &[u8])
     put_text(out, at, source, name);
 }
 
-fn write_origin(out: &mut [u8], m: Origin, source: &[u8]) -> Written
+pub fn write_origin(out: &mut [u8], m: Origin, source: &[u8]) -> Written
     ensures { λ r. ⌜ Settles (fieldsWritten false (a.Origin m) (now (source .entry))) (now (out .entry)) r (now (out .exit)) ⌝ }
 {
     let Origin { lsn, name } = m;
@@ -531,7 +531,7 @@ fn store_relation(out: &mut [u8], m: Relation, source: &[u8], in_block: bool, en
     put_tuple(out, at, source, columns, end);
 }
 
-fn write_relation(out: &mut [u8], m: Relation, source: &[u8], in_block: bool) -> Written
+pub fn write_relation(out: &mut [u8], m: Relation, source: &[u8], in_block: bool) -> Written
     ensures { λ r. ⌜ Settles (fieldsWritten «in_block» (a.Relation m) (now (source .entry))) (now (out .entry)) r (now (out .exit)) ⌝ }
 {
     let Relation {
@@ -583,7 +583,7 @@ fn store_type(out: &mut [u8], m: Type, source: &[u8], in_block: bool)
     put_text(out, at, source, name);
 }
 
-fn write_type(out: &mut [u8], m: Type, source: &[u8], in_block: bool) -> Written
+pub fn write_type(out: &mut [u8], m: Type, source: &[u8], in_block: bool) -> Written
     ensures { λ r. ⌜ Settles (fieldsWritten «in_block» (a.«Type» m) (now (source .entry))) (now (out .entry)) r (now (out .exit)) ⌝ }
 {
     let Type {
@@ -627,7 +627,7 @@ fn store_insert(out: &mut [u8], m: Insert, source: &[u8], in_block: bool, end: C
     put_tuple(out, at, source, tuple, end);
 }
 
-fn write_insert(out: &mut [u8], m: Insert, source: &[u8], in_block: bool) -> Written
+pub fn write_insert(out: &mut [u8], m: Insert, source: &[u8], in_block: bool) -> Written
     ensures { λ r. ⌜ Settles (fieldsWritten «in_block» (a.Insert m) (now (source .entry))) (now (out .entry)) r (now (out .exit)) ⌝ }
 {
     let Insert {
@@ -676,7 +676,7 @@ fn store_update(
     put_tuple(out, at, source, tuple, end);
 }
 
-fn write_update(out: &mut [u8], m: Update, source: &[u8], in_block: bool) -> Written
+pub fn write_update(out: &mut [u8], m: Update, source: &[u8], in_block: bool) -> Written
     ensures { λ r. ⌜ Settles (fieldsWritten «in_block» (a.Update m) (now (source .entry))) (now (out .entry)) r (now (out .exit)) ⌝ }
 {
     let Update {
@@ -720,7 +720,7 @@ fn store_delete(out: &mut [u8], m: Delete, source: &[u8], in_block: bool, end: C
     put_tuple(out, at, source, tuple, end);
 }
 
-fn write_delete(out: &mut [u8], m: Delete, source: &[u8], in_block: bool) -> Written
+pub fn write_delete(out: &mut [u8], m: Delete, source: &[u8], in_block: bool) -> Written
     ensures { λ r. ⌜ Settles (fieldsWritten «in_block» (a.Delete m) (now (source .entry))) (now (out .entry)) r (now (out .exit)) ⌝ }
 {
     let Delete {
@@ -762,7 +762,7 @@ fn store_truncate(out: &mut [u8], m: Truncate, source: &[u8], in_block: bool, en
     put_tuple(out, at, source, relations, end);
 }
 
-fn write_truncate(out: &mut [u8], m: Truncate, source: &[u8], in_block: bool) -> Written
+pub fn write_truncate(out: &mut [u8], m: Truncate, source: &[u8], in_block: bool) -> Written
     ensures { λ r. ⌜ Settles (fieldsWritten «in_block» (a.Truncate m) (now (source .entry))) (now (out .entry)) r (now (out .exit)) ⌝ }
 {
     let Truncate {
@@ -816,7 +816,7 @@ fn store_logical_message(out: &mut [u8], m: LogicalMessage, source: &[u8], in_bl
     put_part(out, at, source, start, length);
 }
 
-fn write_logical_message(
+pub fn write_logical_message(
     out: &mut [u8],
     m: LogicalMessage,
     source: &[u8],
@@ -857,7 +857,7 @@ fn store_stream_start(out: &mut [u8], xid: u32, first: u8)
     put_number(out, at, 1, first as u64);
 }
 
-fn write_stream_start(out: &mut [u8], xid: u32, first: u8) -> Written
+pub fn write_stream_start(out: &mut [u8], xid: u32, first: u8) -> Written
     ensures { λ r. ⌜ Settles (fieldsWritten false (a.StreamStart xid first) []) (now (out .entry)) r (now (out .exit)) ⌝ }
 {
     let next = Cursor::At(1);
@@ -873,7 +873,7 @@ fn write_stream_start(out: &mut [u8], xid: u32, first: u8) -> Written
     }
 }
 
-fn write_stream_stop(out: &mut [u8]) -> Written
+pub fn write_stream_stop(out: &mut [u8]) -> Written
     ensures { λ r. ⌜ Settles (fieldsWritten false a.StreamStop []) (now (out .entry)) r (now (out .exit)) ⌝ }
 {
     let next = fit(Cursor::At(1), out.len());
@@ -905,7 +905,7 @@ fn store_stream_commit(out: &mut [u8], m: StreamCommit)
     put_number(out, at, 8, wire::bits64(time));
 }
 
-fn write_stream_commit(out: &mut [u8], m: StreamCommit) -> Written
+pub fn write_stream_commit(out: &mut [u8], m: StreamCommit) -> Written
     ensures { λ r. ⌜ Settles (fieldsWritten false (a.StreamCommit m) []) (now (out .entry)) r (now (out .exit)) ⌝ }
 {
     let StreamCommit {
@@ -948,7 +948,7 @@ fn store_stream_abort(out: &mut [u8], xid: u32, sub_xid: u32)
     put_number(out, at, 4, sub_xid as u64);
 }
 
-fn write_stream_abort(out: &mut [u8], xid: u32, sub_xid: u32) -> Written
+pub fn write_stream_abort(out: &mut [u8], xid: u32, sub_xid: u32) -> Written
     ensures { λ r. ⌜ Settles (fieldsWritten false (a.StreamAbort xid «sub_xid») []) (now (out .entry)) r (now (out .exit)) ⌝ }
 {
     let next = Cursor::At(1);
