@@ -220,7 +220,12 @@ fn judge_content(source: &[u8], content: Span) -> Cursor
 fn judge_tuple(source: &[u8], start: usize) -> Cursor
     ensures { λ r. ⌜ r ≡ tupleEnd (now (source .entry)) (At start) ⌝ }
 {
-    reader::tuple_end(source, Cursor::At(start))
+    let end = reader::tuple_position(source, start);
+    if end == 0 {
+        reader::tuple_end(source, Cursor::At(start))
+    } else {
+        Cursor::At(end)
+    }
 }
 
 // Where an Update's old tuple ends in the source.
