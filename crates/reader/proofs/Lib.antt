@@ -2,4 +2,5 @@ pub mod Top
 pub mod End
 pub mod Groups
 pub mod Fast
+pub mod Position
 pub mod Columns

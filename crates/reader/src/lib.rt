@@ -4,10 +4,12 @@ ghost use mathlib.Core.Bool.{false};
 ghost use Prim.Native.Nat.{_≤_, _<_};
 ghost use lib.ListN.{length};
 ghost use Rattle.wire.specs.declared.Cursor.the-variants.{At};
+ghost use Rattle.wire.specs.Fields.{positionOf};
 ghost use Rattle.message.specs.Layout.{column, columnEnd, readGroup, groupsEnd, tupleEnd, xidField};
 ghost use Rattle.message.specs.Kinds.{kindNumbered, columnFields, id, begin, commit, origin, relation, type, insert, update, delete, truncate, message, streamStart, streamStop, streamCommit, streamAbort};
-ghost use Rattle.message.specs.Messages.{refuse, finished, settled, readKind, readNamed, readMessage};
+ghost use Rattle.message.specs.Messages.{largest, refuse, finished, settled, readKind, readNamed, readMessage};
 ghost use Rattle.reader.specs.Old.{oldField};
+ghost use Rattle.reader.specs.Position.{tuplePosition};
 use message::Begin;
 use message::Commit;
 use message::Delete;
@@ -105,10 +107,10 @@ fn columns_exact(s: &[u8], c: Cursor, n: u16) -> Cursor
     at
 }
 
-// The end of a column that is good, else 0. In a message no length is too large for its sign.
+// Where a good column ends, and 0 where it is refused. In a message no length is too large for its sign.
 fn column_fast(s: &[u8], at: usize) -> usize
-    requires { ⌜ length (now s) ≤ 0x7FFFFFFF ⌝ }
-    ensures { λ r. ⌜ (0 < r → columnEnd (now (s .entry)) (At at) ≡ At r) ⌝ }
+    requires { ⌜ length (now s) ≤ largest ⌝ }
+    ensures { λ r. ⌜ r ≡ positionOf (columnEnd (now (s .entry)) (At at)) ⌝ }
 {
     if s.len() <= at {
         return 0;
@@ -121,31 +123,44 @@ fn column_fast(s: &[u8], at: usize) -> usize
     }
 }
 
-// The end of `n` columns: the good path as far as it goes, and the exact one from there.
-fn tuple_columns(s: &[u8], c: Cursor, n: u16) -> Cursor
-    ensures { λ r. ⌜ r ≡ groupsEnd (column ∷ []) (now (s .entry)) n c ⌝ }
+// Where `n` columns end, and 0 where one is refused.
+fn columns_fast(s: &[u8], first: usize, n: u16) -> usize
+    requires { ⌜ length (now s) ≤ largest ⌝ }
+    ensures { λ r. ⌜ r ≡ positionOf (groupsEnd (column ∷ []) (now (s .entry)) n (At first)) ⌝ }
 {
-    if 0x7FFF_FFFF < s.len() {
-        return columns_exact(s, c, n);
+    let mut left = n;
+    let mut at = first;
+    while 0 < left {
+        let end = column_fast(s, at);
+        if end == 0 {
+            return 0;
+        }
+        at = end;
+        left -= 1;
     }
-    match c {
+    at
+}
+
+// Where a tuple ends, its count included: 0 where it is refused, or where the slice is longer than any message.
+pub fn tuple_position(s: &[u8], start: usize) -> usize
+    ensures { λ r. ⌜ r ≡ tuplePosition (now (s .entry)) start ⌝ }
+{
+    if message::LARGEST < s.len() {
+        return 0;
+    }
+    let Field16 { value, next } = wire::number16(
+        s,
+        Cursor::At(start),
+        0,
+        MOST_COLUMNS,
+        Refusal::RANGE,
+    );
+    match next {
         Cursor::Refused {
             number: _,
             offset: _,
-        } => columns_exact(s, c, n),
-        Cursor::At(start) => {
-            let mut left = n;
-            let mut at = start;
-            while 0 < left {
-                let e = column_fast(s, at);
-                if e == 0 {
-                    return columns_exact(s, Cursor::At(at), left);
-                }
-                at = e;
-                left -= 1;
-            }
-            Cursor::At(at)
-        }
+        } => 0,
+        Cursor::At(first) => columns_fast(s, first, value),
     }
 }
 
@@ -154,7 +169,27 @@ pub fn tuple_end(s: &[u8], c: Cursor) -> Cursor
     ensures { λ r. ⌜ r ≡ tupleEnd (now (s .entry)) c ⌝ }
 {
     let Field16 { value, next } = wire::number16(s, c, 0, MOST_COLUMNS, Refusal::RANGE);
-    tuple_columns(s, next, value)
+    columns_exact(s, next, value)
+}
+
+// The same, by the good path where it leads to an end.
+fn tuple_after(s: &[u8], c: Cursor) -> Cursor
+    ensures { λ r. ⌜ r ≡ tupleEnd (now (s .entry)) c ⌝ }
+{
+    match c {
+        Cursor::Refused {
+            number: _,
+            offset: _,
+        } => tuple_end(s, c),
+        Cursor::At(start) => {
+            let end = tuple_position(s, start);
+            if end == 0 {
+                tuple_end(s, c)
+            } else {
+                Cursor::At(end)
+            }
+        }
+    }
 }
 
 // The old tuple of an Update, where `K` or `O` stands.
@@ -169,7 +204,7 @@ fn old_tuple(s: &[u8], c: Cursor) -> OldField
         };
     }
     let start = wire::position(next);
-    let next = tuple_end(s, next);
+    let next = tuple_after(s, next);
     if value == b'K' {
         OldField {
             value: OldTuple::Key(start),
@@ -352,7 +387,7 @@ pub fn read_insert(s: &[u8], in_block: bool) -> Read
     } = wire::number32(s, next, 1, MAX32, Refusal::FIELD);
     let Field8 { value: _, next } = wire::letter(s, next, b"N");
     let tuple = wire::position(next);
-    let next = tuple_end(s, next);
+    let next = tuple_after(s, next);
     settle(
         s,
         next,
@@ -375,7 +410,7 @@ pub fn read_update(s: &[u8], in_block: bool) -> Read
     let OldField { value: old, next } = old_tuple(s, next);
     let Field8 { value: _, next } = wire::letter(s, next, b"N");
     let tuple = wire::position(next);
-    let next = tuple_end(s, next);
+    let next = tuple_after(s, next);
     settle(
         s,
         next,
@@ -398,7 +433,7 @@ pub fn read_delete(s: &[u8], in_block: bool) -> Read
     } = wire::number32(s, next, 1, MAX32, Refusal::FIELD);
     let Field8 { value: image, next } = wire::letter(s, next, b"KO");
     let tuple = wire::position(next);
-    let next = tuple_end(s, next);
+    let next = tuple_after(s, next);
     settle(
         s,
         next,

@@ -1,4 +1,4 @@
--- The end of a value, and when it is the end of the field. Assumes nothing.
+-- The end of a value, and that it is the end of the field. Assumes nothing.
 use Prim.Native.Nat.{ℕ, _+_, _<_, _≤_}
 use mathlib.Core.List.{List}
 use mathlib.Core.Bool.{Bool, true, false}
@@ -9,7 +9,7 @@ use lib.ListN.{length}
 use lib.Dec.{leb}
 use Rattle.wire.specs.declared.Cursor.the-variants.{At}
 use Rattle.wire.specs.Numbers.{be, wordAt}
-use Rattle.wire.specs.Fields.{numberField, bytesField, valueField, valueEnd}
+use Rattle.wire.specs.Fields.{numberField, bytesField, valueField, valueEnd, positionOf}
 
 module _ (xs : List ℕ) (at : ℕ) where
   pub end-short : length xs < at + 4 → valueEnd xs at ≡ 0
@@ -26,14 +26,20 @@ module _ (xs : List ℕ) (at : ℕ) where
       let l : at + 4 ≤ length xs = omega arith in
       rw (le-leb (at + 4) (length xs) l, le-leb (at + 4 + be 4 xs at) (length xs) h)
 
-  -- an end that is not 0 is the end of the field, in a list that is short enough for its lengths not to be negative
-  pub end-good : length xs ≤ 0x7FFFFFFF → 0 < valueEnd xs at → valueField xs (At at) .next ≡ At (valueEnd xs at)
+  -- the end is the field's, in a list that is short enough for its lengths not to be negative
+  pub end-of-value : length xs ≤ 0x7FFFFFFF → valueEnd xs at ≡ positionOf (valueField xs (At at) .next)
   unfolding valueEnd valueField numberField bytesField wordAt
-  end-good small = go (leb (at + 4) (length xs)) refl (leb (at + 4 + be 4 xs at) (length xs)) refl
+  end-of-value small = go (leb (at + 4) (length xs)) refl (leb (at + 4 + be 4 xs at) (length xs)) refl
     where
-      go : (a : Bool) → leb (at + 4) (length xs) ≡ a → (b : Bool) → leb (at + 4 + be 4 xs at) (length xs) ≡ b → 0 < valueEnd xs at → valueField xs (At at) .next ≡ At (valueEnd xs at)
-      go true ta true tb p =
+      go :
+          (a : Bool) → leb (at + 4) (length xs) ≡ a → (b : Bool) → leb (at + 4 + be 4 xs at) (length xs) ≡ b
+          → valueEnd xs at ≡ positionOf (valueField xs (At at) .next)
+      go true ta true tb =
           let l : be 4 xs at ≤ 0x7FFFFFFF = omega (arith, leb-true (at + 4 + be 4 xs at) (length xs) tb) in
           simp (ta, tb, le-leb 0 (be 4 xs at) (omega arith), le-leb (be 4 xs at) 0x7FFFFFFF l)
-      go true ta false tb p = absurd (omega (arith, simp (ta, tb) at p))
-      go false ta b tb p = absurd (omega (arith, simp ta at p))
+      go true ta false tb = range (leb (be 4 xs at) 0x7FFFFFFF) refl
+        where
+          range : (t : Bool) → leb (be 4 xs at) 0x7FFFFFFF ≡ t → valueEnd xs at ≡ positionOf (valueField xs (At at) .next)
+          range true r = simp (ta, tb, le-leb 0 (be 4 xs at) (omega arith), r)
+          range false r = simp (ta, tb, le-leb 0 (be 4 xs at) (omega arith), r)
+      go false ta b tb = simp ta

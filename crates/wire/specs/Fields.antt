@@ -100,7 +100,7 @@ positionOf (Refused m at) = 0
 -- THE GOOD PATH OF A VALUE
 
 -- where a length and its bytes end, the length taken as unsigned, and 0 where they go past the end.
--- In a list of at most 0x7FFFFFFF bytes this is the end of `valueField` where that is good (proofs/Values)
+-- In a list of at most 0x7FFFFFFF bytes this is the position that `valueField` ends at (proofs/Values)
 unfoldable pub valueEnd : List ℕ → ℕ → ℕ
 valueEnd xs at =
     cond (leb (at + 4) (length xs))

@@ -1,14 +1,12 @@
-use mathlib.Core.Path.{ap, sym, _∙_}
+use mathlib.Core.Path.{_∙_}
 use native.Mathlib.Omega.{arith}
 use borrow.Author.Needs.{needs}
-use Rattle.wire.specs.declared.Cursor.the-variants.{At}
-use Rattle.wire.proofs.Values.{end-good}
-use Rattle.reader.proofs.Fast.{column-bare, column-full}
+use Rattle.reader.proofs.Fast.{column-past, column-bare, column-full, column-other}
 use Rattle.reader.proofs.column_fast.Statement.{statement}
 use Rattle.reader.proofs.column_fast.Tie as tie
 
 returns : tie.Need-returns
-returns c h = absurd (omega arith)
+returns c = column-past _ _ (c .if1 .taken)
 
 add-next : tie.Need-add-next
 add-next c = search needs
@@ -20,15 +18,15 @@ value-end-requires : tie.Need-value-end-requires
 value-end-requires c κs = tt
 
 returns-2 : tie.Need-returns-2
-returns-2 c h = column-bare _ _ (c .match .keys1) (omega arith)
+returns-2 c = column-bare _ _ (omega arith) (c .match .keys1)
 
 returns-3 : tie.Need-returns-3
-returns-3 c h =
-    column-full _ _ (c .before .match .keys2) (omega arith)
-    (end-good _ _ (c .before .before .before .before .before .pre) (omega (arith, c .value-end .ensures)) ∙ ap At (sym (c .value-end .ensures)))
+returns-3 c =
+    let small = c .before .before .before .before .before .pre in
+    c .value-end .ensures ∙ column-full _ _ (omega arith) (c .before .match .keys2) (omega (arith, small))
 
 returns-4 : tie.Need-returns-4
-returns-4 c h = absurd (omega arith)
+returns-4 c = column-other _ _ (omega arith) (c .match .rest .0 .1) (c .match .rest .1)
 
 pub column-fast-spec : {M : Type 1} → statement M
 column-fast-spec =

@@ -15,19 +15,19 @@ returns c = old-none _ _ (c .before .letter .ensures) (c .if1 .taken)
 position-requires : tie.Need-position-requires
 position-requires c κs = tt
 
-tuple-end-requires : tie.Need-tuple-end-requires
-tuple-end-requires c κs = tt
+tuple-after-requires : tie.Need-tuple-after-requires
+tuple-after-requires c κs = tt
 
 returns-2 : tie.Need-returns-2
 returns-2 c =
     let l = c .before .before .before .before .letter in
-    old-key _ _ (l .ensures) (c .before .before .before .if1 .left) (c .before .before .position .ensures) (c .before .tuple-end .ensures) (c .if2 .taken)
+    old-key _ _ (l .ensures) (c .before .before .before .if1 .left) (c .before .before .position .ensures) (c .before .tuple-after .ensures) (c .if2 .taken)
 
 returns-3 : tie.Need-returns-3
 returns-3 c =
     let l = c .before .before .before .before .letter in
     let left = c .before .before .before .if1 .left in
-    old-full _ _ (l .ensures) left (c .before .before .position .ensures) (c .before .tuple-end .ensures) (key-or-old _ _ (l .ensures) left (c .if2 .left))
+    old-full _ _ (l .ensures) left (c .before .before .position .ensures) (c .before .tuple-after .ensures) (key-or-old _ _ (l .ensures) left (c .if2 .left))
 
 pub old-tuple-spec : {M : Type 1} → statement M
 old-tuple-spec =
@@ -37,6 +37,6 @@ old-tuple-spec =
     letter-requires
     returns
     position-requires
-    tuple-end-requires
+    tuple-after-requires
     returns-2
     returns-3)

@@ -18,8 +18,8 @@ letter-requires c κs = tt
 position-requires : tie.Need-position-requires
 position-requires c κs = tt
 
-tuple-end-requires : tie.Need-tuple-end-requires
-tuple-end-requires c κs = tt
+tuple-after-requires : tie.Need-tuple-after-requires
+tuple-after-requires c κs = tt
 
 settle-requires : tie.Need-settle-requires
 settle-requires c κs = tt
@@ -29,7 +29,7 @@ unfolding readKind
 returns c =
     rw (
       c .settle .ensures,
-      c .before .tuple-end .ensures,
+      c .before .tuple-after .ensures,
       c .before .before .position .ensures,
       c .before .before .before .letter .ensures,
       c .before .before .before .before .before .number32 .ensures,
@@ -45,6 +45,6 @@ read-delete-spec =
     slice-aggregate-letter
     letter-requires
     position-requires
-    tuple-end-requires
+    tuple-after-requires
     settle-requires
     returns)

@@ -17,12 +17,12 @@ judged c =
       c .before .before .before .before .before .advance .ensures,
       c .before .before .before .before .judge-id .ensures,
       c .before .before .before .before .before .before .judge-xid .ensures,
-      c .before .before .before .before .before .before .before .tuple-end .ensures,
+      c .before .before .before .before .before .before .before .judge-tuple .ensures,
       lettered,
     )
 
-tuple-end-requires : tie.Need-tuple-end-requires
-tuple-end-requires c κs = tt
+judge-tuple-requires : tie.Need-judge-tuple-requires
+judge-tuple-requires c κs = tt
 
 judge-xid-requires : tie.Need-judge-xid-requires
 judge-xid-requires c κs = tt
@@ -57,7 +57,7 @@ enum-known-next-2 c = search needs
 store-insert-requires : tie.Need-store-insert-requires
 store-insert-requires c κs =
     let s = c .before .before .before .before .before .before .before .before .before .before .before .before .before .before in (
-      c .before .before .before .before .before .before .before .before .before .before .before .tuple-end .ensures,
+      c .before .before .before .before .before .before .before .before .before .before .before .judge-tuple .ensures,
       has-room (s .args .in-block) (a.Insert (s .args .m)) (s .args .source .now) (s .args .out .now)
           (judged (c .before .before .before .before)) (c .before .before .before .before .fit .ensures) (c .before .before .next2 .given .1),
     )
@@ -83,7 +83,7 @@ pub write-insert-spec : {M : Type 1} → statement M
 write-insert-spec =
     tie.close
     (tie.spec
-    tuple-end-requires
+    judge-tuple-requires
     judge-xid-requires
     advance-requires
     judge-id-requires

@@ -21,15 +21,15 @@ judged c =
       c .before .before .before .before .before .before .advance .ensures,
       c .before .before .before .before .before .judge-id .ensures,
       c .before .before .before .before .before .before .before .judge-xid .ensures,
-      c .before .before .before .before .before .before .before .before .tuple-end .ensures,
+      c .before .before .before .before .before .before .before .before .judge-tuple .ensures,
     )
     (old-steps (c .before .before .before .before .before .before .before .before .before .before .before .before .args .source .now) (c .before .before .before .before .before .before .before .before .before .before .before .before .args .m .old) (c .before .before .before .before .before .before .before .before .before .old-end .ensures) _ (bytePiece 0x4E ∷ tuplePiece (c .before .before .before .before .before .before .before .before .before .before .before .before .args .source .now) (c .before .before .before .before .before .before .before .before .before .before .before .before .args .m .tuple) ∷ []))
 
 old-end-requires : tie.Need-old-end-requires
 old-end-requires c κs = tt
 
-tuple-end-requires : tie.Need-tuple-end-requires
-tuple-end-requires c κs = tt
+judge-tuple-requires : tie.Need-judge-tuple-requires
+judge-tuple-requires c κs = tt
 
 judge-xid-requires : tie.Need-judge-xid-requires
 judge-xid-requires c κs = tt
@@ -68,7 +68,7 @@ store-update-requires : tie.Need-store-update-requires
 store-update-requires c κs =
     let s = c .before .before .before .before .before .before .before .before .before .before .before .before .before .before .before .before in (
       c .before .before .before .before .before .before .before .before .before .before .before .before .before .old-end .ensures,
-      c .before .before .before .before .before .before .before .before .before .before .before .before .tuple-end .ensures,
+      c .before .before .before .before .before .before .before .before .before .before .before .before .judge-tuple .ensures,
       has-room (s .args .in-block) (a.Update (s .args .m)) (s .args .source .now) (s .args .out .now)
           (judged (c .before .before .before .before)) (c .before .before .before .before .fit .ensures) (c .before .before .next2 .given .1),
     )
@@ -95,7 +95,7 @@ write-update-spec =
     tie.close
     (tie.spec
     old-end-requires
-    tuple-end-requires
+    judge-tuple-requires
     judge-xid-requires
     advance-requires
     judge-id-requires

@@ -4,8 +4,8 @@ use native.Mathlib.Omega.{arith}
 use lib.ListN.{length, length-set, drop}
 use lib.Seq.{sets}
 use Rattle.writer.proofs.Stores.{byte-turn, byte-end}
-use Rattle.writer.proofs.lay_part.Statement.{statement}
-use Rattle.writer.proofs.lay_part.Tie as tie
+use Rattle.writer.proofs.lay_bytes.Statement.{statement}
+use Rattle.writer.proofs.lay_bytes.Tie as tie
 
 abbrev Inv-loop : tie.InvT-loop
 Inv-loop tail₀ part i₀ tail i = (i ≤ length part) × (length tail ≡ length tail₀) × (sets tail i (drop i part) ≡ sets tail₀ 0 part)
@@ -37,8 +37,8 @@ same-length c = c .before .loop .inv .1
 returns : tie.Need-returns Inv-loop μ-loop
 returns c = byte-end _ _ _ (c .loop-test .left) (c .before .loop .inv .2)
 
-pub lay-part-spec : {M : Type 1} → statement M
-lay-part-spec =
+pub lay-bytes-spec : {M : Type 1} → statement M
+lay-bytes-spec =
     tie.close
     (tie.spec
     Inv-loop
