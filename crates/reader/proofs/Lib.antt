@@ -2,5 +2,5 @@ pub mod Top
 pub mod End
 pub mod Groups
 pub mod Fast
-pub mod Position
+pub mod Offset
 pub mod Columns

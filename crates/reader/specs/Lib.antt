@@ -1,2 +1,2 @@
 pub mod Old
-pub mod Position
+pub mod Offset

@@ -9,7 +9,7 @@ ghost use Rattle.message.specs.Layout.{column, columnEnd, readGroup, groupsEnd,
 ghost use Rattle.message.specs.Kinds.{kindNumbered, columnFields, id, begin, commit, origin, relation, type, insert, update, delete, truncate, message, streamStart, streamStop, streamCommit, streamAbort};
 ghost use Rattle.message.specs.Messages.{largest, refuse, finished, settled, readKind, readNamed, readMessage};
 ghost use Rattle.reader.specs.Old.{oldField};
-ghost use Rattle.reader.specs.Position.{tuplePosition};
+ghost use Rattle.reader.specs.Offset.{tupleEndOffset};
 use message::Begin;
 use message::Commit;
 use message::Delete;
@@ -142,8 +142,8 @@ fn columns_fast(s: &[u8], first: usize, n: u16) -> usize
 }
 
 // Where a tuple ends, its count included: 0 where it is refused, or where the slice is longer than any message.
-pub fn tuple_position(s: &[u8], start: usize) -> usize
-    ensures { λ r. ⌜ r ≡ tuplePosition (now (s .entry)) start ⌝ }
+pub fn tuple_end_offset(s: &[u8], start: usize) -> usize
+    ensures { λ r. ⌜ r ≡ tupleEndOffset (now (s .entry)) start ⌝ }
 {
     if message::LARGEST < s.len() {
         return 0;
@@ -182,7 +182,7 @@ fn tuple_after(s: &[u8], c: Cursor) -> Cursor
             offset: _,
         } => tuple_end(s, c),
         Cursor::At(start) => {
-            let end = tuple_position(s, start);
+            let end = tuple_end_offset(s, start);
             if end == 0 {
                 tuple_end(s, c)
             } else {

@@ -220,7 +220,7 @@ fn judge_content(source: &[u8], content: Span) -> Cursor
 fn judge_tuple(source: &[u8], start: usize) -> Cursor
     ensures { λ r. ⌜ r ≡ tupleEnd (now (source .entry)) (At start) ⌝ }
 {
-    let end = reader::tuple_position(source, start);
+    let end = reader::tuple_end_offset(source, start);
     if end == 0 {
         reader::tuple_end(source, Cursor::At(start))
     } else {

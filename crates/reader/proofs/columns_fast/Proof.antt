@@ -8,7 +8,7 @@ use Rattle.wire.specs.Fields.{positionOf}
 use Rattle.message.specs.Layout.{groupsEnd, column}
 use Rattle.reader.proofs.Groups.{turn, done}
 use Rattle.reader.proofs.Fast.{columns-none}
-use Rattle.reader.proofs.Position.{there}
+use Rattle.reader.proofs.Offset.{there}
 use Rattle.reader.proofs.columns_fast.Statement.{statement}
 use Rattle.reader.proofs.columns_fast.Tie as tie
 

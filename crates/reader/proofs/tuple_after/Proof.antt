@@ -1,7 +1,7 @@
 use mathlib.Core.Path.{ap, sym, _∙_}
 use borrow.Author.Needs.{needs}
 use Rattle.message.specs.Layout.{tupleEnd}
-use Rattle.reader.proofs.Position.{tuple-there}
+use Rattle.reader.proofs.Offset.{tuple-there}
 use Rattle.reader.proofs.tuple_after.Statement.{statement}
 use Rattle.reader.proofs.tuple_after.Tie as tie
 
@@ -14,8 +14,8 @@ tuple-end-requires c κs = tt
 enum-known-c : tie.Need-enum-known-c
 enum-known-c c = search needs
 
-tuple-position-requires : tie.Need-tuple-position-requires
-tuple-position-requires c κs = tt
+tuple-end-offset-requires : tie.Need-tuple-end-offset-requires
+tuple-end-offset-requires c κs = tt
 
 tuple-end-requires-2 : tie.Need-tuple-end-requires-2
 tuple-end-requires-2 c κs = tt
@@ -28,7 +28,7 @@ returns-2 c = c .tuple-end2 .ensures ∙ ap (tupleEnd _) (sym (c .before .before
 
 returns-3 : tie.Need-returns-3
 returns-3 c =
-    sym (tuple-there _ _ (c .before .tuple-position .ensures) (c .if1 .left))
+    sym (tuple-there _ _ (c .before .tuple-end-offset .ensures) (c .if1 .left))
     ∙ ap (tupleEnd _) (sym (c .before .before .before .c .given .1))
 
 pub tuple-after-spec : {M : Type 1} → statement M
@@ -38,7 +38,7 @@ tuple-after-spec =
     enum-told
     tuple-end-requires
     enum-known-c
-    tuple-position-requires
+    tuple-end-offset-requires
     tuple-end-requires-2
     returns
     returns-2

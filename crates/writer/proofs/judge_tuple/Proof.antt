@@ -1,10 +1,10 @@
 use mathlib.Core.Path.{sym}
-use Rattle.reader.proofs.Position.{tuple-there}
+use Rattle.reader.proofs.Offset.{tuple-there}
 use Rattle.writer.proofs.judge_tuple.Statement.{statement}
 use Rattle.writer.proofs.judge_tuple.Tie as tie
 
-tuple-position-requires : tie.Need-tuple-position-requires
-tuple-position-requires c κs = tt
+tuple-end-offset-requires : tie.Need-tuple-end-offset-requires
+tuple-end-offset-requires c κs = tt
 
 tuple-end-requires : tie.Need-tuple-end-requires
 tuple-end-requires c κs = tt
@@ -13,13 +13,13 @@ returns : tie.Need-returns
 returns c = c .tuple-end .ensures
 
 returns-2 : tie.Need-returns-2
-returns-2 c = sym (tuple-there _ _ (c .before .tuple-position .ensures) (c .if1 .left))
+returns-2 c = sym (tuple-there _ _ (c .before .tuple-end-offset .ensures) (c .if1 .left))
 
 pub judge-tuple-spec : {M : Type 1} → statement M
 judge-tuple-spec =
     tie.close
     (tie.spec
-    tuple-position-requires
+    tuple-end-offset-requires
     tuple-end-requires
     returns
     returns-2)

@@ -10,5 +10,5 @@ use Rattle.message.specs.Layout.{tupleEnd}
 use Rattle.message.specs.Messages.{largest}
 
 -- 0 where it is refused, or where the slice is longer than any message
-unfoldable pub tuplePosition : List ℕ → ℕ → ℕ
-tuplePosition xs start = cond (ltb largest (length xs)) 0 (positionOf (tupleEnd xs (At start)))
+unfoldable pub tupleEndOffset : List ℕ → ℕ → ℕ
+tupleEndOffset xs start = cond (ltb largest (length xs)) 0 (positionOf (tupleEnd xs (At start)))

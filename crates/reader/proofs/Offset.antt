@@ -13,7 +13,7 @@ use Rattle.wire.specs.Fields.{positionOf, numberField, narrow16}
 use Rattle.message.specs.Layout.{column, mostColumns, groupsEnd, tupleEnd}
 use Rattle.message.specs.Messages.{largest}
 use Rattle.message.proofs.Local.{groups-local}
-use Rattle.reader.specs.Position.{tuplePosition}
+use Rattle.reader.specs.Offset.{tupleEndOffset}
 
 -- a position that is not 0 is where the cursor stands
 pub there : (c : Cursor) {e : ℕ} → e ≡ positionOf c → (e ≡ 0 → ⊥) → c ≡ At e
@@ -22,25 +22,25 @@ there (Refused k o) q n = absurd (n q)
 
 module _ (xs : List ℕ) (start : ℕ) where
   -- the same for a tuple's
-  pub tuple-there : {e : ℕ} → e ≡ tuplePosition xs start → (e ≡ 0 → ⊥) → tupleEnd xs (At start) ≡ At e
-  unfolding tuplePosition
+  pub tuple-there : {e : ℕ} → e ≡ tupleEndOffset xs start → (e ≡ 0 → ⊥) → tupleEnd xs (At start) ≡ At e
+  unfolding tupleEndOffset
   tuple-there {e} = go (ltb largest (length xs))
     where
       go : (t : Bool) → e ≡ cond t 0 (positionOf (tupleEnd xs (At start))) → (e ≡ 0 → ⊥) → tupleEnd xs (At start) ≡ At e
       go true q n = absurd (n q)
       go false q n = there (tupleEnd xs (At start)) q n
 
-  pub position-long : largest < length xs → 0 ≡ tuplePosition xs start
-  unfolding tuplePosition
-  position-long h = rw (lt-ltb largest (length xs) h)
+  pub offset-long : largest < length xs → 0 ≡ tupleEndOffset xs start
+  unfolding tupleEndOffset
+  offset-long h = rw (lt-ltb largest (length xs) h)
 
   -- a tuple's count and its columns
   module _ (h : length xs ≤ largest) {k : Field16} (q : k ≡ narrow16 (numberField 2 0 mostColumns 6 xs (At start))) where
-    pub position-from : {c : Cursor} → k .next ≡ c → positionOf (groupsEnd (column ∷ []) xs (k .value) c) ≡ tuplePosition xs start
-    unfolding tuplePosition tupleEnd
-    position-from e =
+    pub offset-from : {c : Cursor} → k .next ≡ c → positionOf (groupsEnd (column ∷ []) xs (k .value) c) ≡ tupleEndOffset xs start
+    unfolding tupleEndOffset tupleEnd
+    offset-from e =
         ap (λ (d : Cursor). positionOf (groupsEnd (column ∷ []) xs (k .value) d)) (sym e)
         ∙ rw (le-ltb largest (length xs) h) (ap (λ (f : Field16). positionOf (groupsEnd (column ∷ []) xs (f .value) (f .next))) q)
 
-    pub position-none : {n o : ℕ} → k .next ≡ Refused n o → 0 ≡ tuplePosition xs start
-    position-none {n} {o} e = sym (ap positionOf (groups-local (column ∷ []) (k .value) .stays xs n o)) ∙ position-from e
+    pub offset-none : {n o : ℕ} → k .next ≡ Refused n o → 0 ≡ tupleEndOffset xs start
+    offset-none {n} {o} e = sym (ap positionOf (groups-local (column ∷ []) (k .value) .stays xs n o)) ∙ offset-from e
