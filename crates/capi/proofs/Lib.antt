@@ -8,3 +8,5 @@ pub mod TakenBack
 pub mod Told
 pub mod Steps
 pub mod Low
+pub mod Put
+pub mod Known
