@@ -1,0 +1,84 @@
+use borrow.Author.Needs.{needs}
+use Rattle.capi.proofs.rows.write_relation.Statement.{statement}
+use Rattle.capi.proofs.rows.write_relation.Tie as tie
+
+element-copy-out-word : tie.Need-element-copy-out-word
+element-copy-out-word c = search needs
+
+word-requires : tie.Need-word-requires
+word-requires c κs = tt
+
+element-copy-out-word-2 : tie.Need-element-copy-out-word-2
+element-copy-out-word-2 c = search needs
+
+word-requires-2 : tie.Need-word-requires-2
+word-requires-2 c κs = tt
+
+element-copy-out-span : tie.Need-element-copy-out-span
+element-copy-out-span c = search needs
+
+element-copy-out-span-2 : tie.Need-element-copy-out-span-2
+element-copy-out-span-2 c = search needs
+
+span-requires : tie.Need-span-requires
+span-requires c κs = tt
+
+element-copy-out-span-3 : tie.Need-element-copy-out-span-3
+element-copy-out-span-3 c = search needs
+
+element-copy-out-span-4 : tie.Need-element-copy-out-span-4
+element-copy-out-span-4 c = search needs
+
+span-requires-2 : tie.Need-span-requires-2
+span-requires-2 c κs = tt
+
+element-copy-out-byte : tie.Need-element-copy-out-byte
+element-copy-out-byte c = search needs
+
+byte-requires : tie.Need-byte-requires
+byte-requires c κs = tt
+
+element-copy-out-half : tie.Need-element-copy-out-half
+element-copy-out-half c = search needs
+
+half-requires : tie.Need-half-requires
+half-requires c κs = tt
+
+element-copy-out-offset : tie.Need-element-copy-out-offset
+element-copy-out-offset c = search needs
+
+offset-requires : tie.Need-offset-requires
+offset-requires c κs = tt
+
+flatten-relation-requires : tie.Need-flatten-relation-requires
+flatten-relation-requires c κs = tt
+
+if-same-requires : tie.Need-if-same-requires
+if-same-requires c κs = tt
+
+returns : tie.Need-returns
+returns c = rw (c .if-same .ensures, c .before .before .flatten-relation .ensures, c .before .before .before .before .offset .ensures, c .before .before .before .before .before .before .half .ensures, c .before .before .before .before .before .before .before .before .byte .ensures, c .before .before .before .before .before .before .before .before .before .before .span2 .ensures, c .before .before .before .before .before .before .before .before .before .before .before .before .before .span .ensures, c .before .before .before .before .before .before .before .before .before .before .before .before .before .before .before .before .word2 .ensures, c .before .before .before .before .before .before .before .before .before .before .before .before .before .before .before .before .before .before .word .ensures)
+
+pub relation-in-spec : {M : Type 1} → statement M
+relation-in-spec =
+    tie.close
+    (tie.spec
+    element-copy-out-word
+    word-requires
+    element-copy-out-word-2
+    word-requires-2
+    element-copy-out-span
+    element-copy-out-span-2
+    span-requires
+    element-copy-out-span-3
+    element-copy-out-span-4
+    span-requires-2
+    element-copy-out-byte
+    byte-requires
+    element-copy-out-half
+    half-requires
+    element-copy-out-offset
+    offset-requires
+    flatten-relation-requires
+    if-same-requires
+    returns)
