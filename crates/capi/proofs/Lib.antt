@@ -6,5 +6,6 @@ pub mod FlatForm
 pub mod ReadFits
 pub mod TakenBack
 pub mod Told
+pub mod Settled
 pub mod Steps
 pub mod Low

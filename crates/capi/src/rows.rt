@@ -1,7 +1,8 @@
 // Writing the message whose flat form a row of 16 numbers is.
+ghost use Prim.Native.Nat.{ℕ};
 ghost use mathlib.Core.Path.{_≡_};
 ghost use mathlib.Core.Option.{some};
-ghost use mathlib.Core.List.{[]};
+ghost use mathlib.Core.List.{List};
 ghost use Rattle.message.specs.Kinds.{kindNumbered, begin, commit, origin, relation, type, insert, update, delete, truncate, message, streamStart, streamStop, streamCommit, streamAbort};
 ghost use Rattle.message.specs.Messages.{oldTuple};
 ghost use Rattle.writer.specs.Answer.{Settles, refusal};
@@ -114,7 +115,7 @@ fn refused(number: u8) -> Written
 // THE KINDS. Where a number is too big for its field, it is 0 in the message, whose flat form is not the row.
 
 fn write_begin(version: Version, in_block: bool, row: &[u64; 16], out: &mut [u8]) -> Written
-    ensures { λ r. ⌜ Settles (writeFound version «in_block» (whole (now (row .entry)) (messageIn (now (row .entry)) (some begin))) []) (now (out .entry)) r (now (out .exit)) ⌝ }
+    ensures { λ r. ⌜ ((src : List ℕ) → Settles (writeFound version «in_block» (whole (now (row .entry)) (messageIn (now (row .entry)) (some begin))) src) (now (out .entry)) r (now (out .exit))) ⌝ }
 {
     let m = Begin {
         final_lsn: long(row[1]),
@@ -134,7 +135,7 @@ fn write_begin(version: Version, in_block: bool, row: &[u64; 16], out: &mut [u8]
 }
 
 fn write_commit(version: Version, in_block: bool, row: &[u64; 16], out: &mut [u8]) -> Written
-    ensures { λ r. ⌜ Settles (writeFound version «in_block» (whole (now (row .entry)) (messageIn (now (row .entry)) (some commit))) []) (now (out .entry)) r (now (out .exit)) ⌝ }
+    ensures { λ r. ⌜ ((src : List ℕ) → Settles (writeFound version «in_block» (whole (now (row .entry)) (messageIn (now (row .entry)) (some commit))) src) (now (out .entry)) r (now (out .exit))) ⌝ }
 {
     let m = Commit {
         flags: byte(row[1]),
@@ -372,7 +373,7 @@ fn write_logical_message(
 }
 
 fn write_stream_start(version: Version, in_block: bool, row: &[u64; 16], out: &mut [u8]) -> Written
-    ensures { λ r. ⌜ Settles (writeFound version «in_block» (whole (now (row .entry)) (messageIn (now (row .entry)) (some streamStart))) []) (now (out .entry)) r (now (out .exit)) ⌝ }
+    ensures { λ r. ⌜ ((src : List ℕ) → Settles (writeFound version «in_block» (whole (now (row .entry)) (messageIn (now (row .entry)) (some streamStart))) src) (now (out .entry)) r (now (out .exit))) ⌝ }
 {
     let xid = word(row[1]);
     let first = byte(row[2]);
@@ -389,7 +390,7 @@ fn write_stream_start(version: Version, in_block: bool, row: &[u64; 16], out: &m
 }
 
 fn write_stream_stop(version: Version, in_block: bool, row: &[u64; 16], out: &mut [u8]) -> Written
-    ensures { λ r. ⌜ Settles (writeFound version «in_block» (whole (now (row .entry)) (messageIn (now (row .entry)) (some streamStop))) []) (now (out .entry)) r (now (out .exit)) ⌝ }
+    ensures { λ r. ⌜ ((src : List ℕ) → Settles (writeFound version «in_block» (whole (now (row .entry)) (messageIn (now (row .entry)) (some streamStop))) src) (now (out .entry)) r (now (out .exit))) ⌝ }
 {
     let mut again = [0; 16];
     flat::flatten_stream_stop(&mut again);
@@ -404,7 +405,7 @@ fn write_stream_stop(version: Version, in_block: bool, row: &[u64; 16], out: &mu
 }
 
 fn write_stream_commit(version: Version, in_block: bool, row: &[u64; 16], out: &mut [u8]) -> Written
-    ensures { λ r. ⌜ Settles (writeFound version «in_block» (whole (now (row .entry)) (messageIn (now (row .entry)) (some streamCommit))) []) (now (out .entry)) r (now (out .exit)) ⌝ }
+    ensures { λ r. ⌜ ((src : List ℕ) → Settles (writeFound version «in_block» (whole (now (row .entry)) (messageIn (now (row .entry)) (some streamCommit))) src) (now (out .entry)) r (now (out .exit))) ⌝ }
 {
     let m = StreamCommit {
         xid: word(row[1]),
@@ -426,7 +427,7 @@ fn write_stream_commit(version: Version, in_block: bool, row: &[u64; 16], out: &
 }
 
 fn write_stream_abort(version: Version, in_block: bool, row: &[u64; 16], out: &mut [u8]) -> Written
-    ensures { λ r. ⌜ Settles (writeFound version «in_block» (whole (now (row .entry)) (messageIn (now (row .entry)) (some streamAbort))) []) (now (out .entry)) r (now (out .exit)) ⌝ }
+    ensures { λ r. ⌜ ((src : List ℕ) → Settles (writeFound version «in_block» (whole (now (row .entry)) (messageIn (now (row .entry)) (some streamAbort))) src) (now (out .entry)) r (now (out .exit))) ⌝ }
 {
     let xid = word(row[1]);
     let sub_xid = word(row[2]);

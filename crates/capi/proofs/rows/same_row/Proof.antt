@@ -1,4 +1,5 @@
 use Prim.Native.Nat.{_≤_}
+use mathlib.Core.Bool.{_&&_}
 use mathlib.Core.Path.{_≡_, refl}
 use native.Mathlib.Omega.{arith}
 use Rattle.capi.specs.Flat.{same}
@@ -7,10 +8,10 @@ use Rattle.capi.proofs.rows.same_row.Statement.{statement}
 use Rattle.capi.proofs.rows.same_row.Tie as tie
 
 abbrev Inv-loop : tie.InvT-loop
-Inv-loop a b k₀ k = (k ≤ 16) × (same k a b ≡ same 16 a b)
+Inv-loop a b t₀ k₀ t k = (k ≤ 16) × (t && same k a b ≡ same 16 a b)
 
 abbrev μ-loop : tie.MeasureT-loop
-μ-loop a b k₀ k = k
+μ-loop a b t₀ k₀ t k = k
 
 loop-holds : tie.Need-loop-holds Inv-loop μ-loop
 loop-holds c = (omega arith, refl)
@@ -30,23 +31,31 @@ mul-if1-2 c = omega arith
 element-copy-out-if1-2 : tie.Need-element-copy-out-if1-2 Inv-loop μ-loop
 element-copy-out-if1-2 c = omega arith
 
-returns : tie.Need-returns Inv-loop μ-loop
-returns c =
-    let l = c .before .before .before .before in
-    differs (l .loop .k) 16 (l .before .args .a .now) (l .before .args .b .now) (c .before .before .before .loop-test .taken) (l .loop .inv .1) (c .if1 .taken)
-
 loop-less : tie.Need-loop-less Inv-loop μ-loop
 loop-less c = omega arith
 
 loop-again : tie.Need-loop-again Inv-loop μ-loop
 loop-again c =
-    let l = c .before .before .before .before in
-    (omega arith, agrees (l .loop .k) 16 (l .before .args .a .now) (l .before .args .b .now) (c .before .before .before .loop-test .taken) (l .loop .inv .1) (c .if1 .left))
+    let i = c .before .before .before in
+    let l = i .before in
+    let s = l .before .args in
+    (omega arith, differs (l .loop .same) (l .loop .k) (s .a .now) (s .b .now) (l .loop .inv .1) (i .loop-test .taken) (c .if1 .taken))
 
-returns-2 : tie.Need-returns-2 Inv-loop μ-loop
-returns-2 c =
+loop-less-2 : tie.Need-loop-less-2 Inv-loop μ-loop
+loop-less-2 c = omega arith
+
+loop-again-2 : tie.Need-loop-again-2 Inv-loop μ-loop
+loop-again-2 c =
+    let i = c .before .before .before in
+    let l = i .before in
+    let s = l .before .args in
+    (omega arith, agrees (l .loop .same) (l .loop .k) (s .a .now) (s .b .now) (l .loop .inv .1) (i .loop-test .taken) (c .if1 .left))
+
+returns : tie.Need-returns Inv-loop μ-loop
+returns c =
     let l = c .before in
-    all-same (l .loop .k) 16 (l .before .args .a .now) (l .before .args .b .now) (omega arith) (l .loop .inv .1)
+    let s = l .before .args in
+    all-same (l .loop .same) (l .loop .k) (s .a .now) (s .b .now) (l .loop .inv .1) (omega arith)
 
 pub same-row-spec : {M : Type 1} → statement M
 same-row-spec =
@@ -60,7 +69,8 @@ same-row-spec =
     element-copy-out-if1
     mul-if1-2
     element-copy-out-if1-2
-    returns
     loop-less
     loop-again
-    returns-2)
+    loop-less-2
+    loop-again-2
+    returns)

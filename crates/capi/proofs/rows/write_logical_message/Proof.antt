@@ -1,4 +1,9 @@
+use mathlib.Core.Option.{some}
 use borrow.Author.Needs.{needs}
+use Rattle.message.specs.declared.Message.the-variants as a
+use Rattle.message.specs.Kinds.{message}
+use Rattle.capi.specs.Flat.{messageIn}
+use Rattle.capi.proofs.Settled.{Taken, other, stopped, passed}
 use Rattle.capi.proofs.rows.write_logical_message.Statement.{statement}
 use Rattle.capi.proofs.rows.write_logical_message.Tie as tie
 
@@ -41,14 +46,66 @@ span-requires-2 c κs = tt
 flatten-logical-message-requires : tie.Need-flatten-logical-message-requires
 flatten-logical-message-requires c κs = tt
 
-if-same-requires : tie.Need-if-same-requires
-if-same-requires c κs = tt
+same-row-requires : tie.Need-same-row-requires
+same-row-requires c κs = tt
+
+refused-requires : tie.Need-refused-requires
+refused-requires c κs = tt
+
+taken :
+    (c : tie.After-same-row)
+    → let s = c .before .before .before .before .before .before .before .before .before .before .before .before in
+    let ns = s .before .before .before .before .before .before .args .row .now in
+    Taken ns (messageIn ns (some message)) (c .same-row .result)
+taken c =
+    let content = c .before .before .before .before in
+    let prefix = content .before .before .before in
+    let lsn = prefix .before .before .before in
+    let flags = lsn .before .before in
+    let xid = flags .before .before in
+    record {
+      it = a.Message (record {
+        xid = xid .word .result;
+        flags = flags .byte .result;
+        lsn = lsn .long .result;
+        prefix = prefix .span .result;
+        content = content .span2 .result;
+      });
+      made = rw (content .span2 .ensures, prefix .span .ensures, lsn .long .ensures, flags .byte .ensures, xid .word .ensures);
+      tested = rw (c .same-row .ensures, c .before .before .flatten-logical-message .ensures);
+    }
 
 returns : tie.Need-returns
-returns c = rw (c .if-same .ensures, c .before .before .flatten-logical-message .ensures, c .before .before .before .before .span2 .ensures, c .before .before .before .before .before .before .before .span .ensures, c .before .before .before .before .before .before .before .before .before .before .long .ensures, c .before .before .before .before .before .before .before .before .before .before .before .before .byte .ensures, c .before .before .before .before .before .before .before .before .before .before .before .before .before .before .word .ensures)
+returns c = other _ _ _ (taken (c .before .before)) (c .before .if1 .taken) (c .refused .ensures)
 
-pub logical-message-in-spec : {M : Type 1} → statement M
-logical-message-in-spec =
+barred-requires : tie.Need-barred-requires
+barred-requires c κs = tt
+
+refused-requires-2 : tie.Need-refused-requires-2
+refused-requires-2 c κs = tt
+
+returns-2 : tie.Need-returns-2
+unfolding taken
+returns-2 c =
+    let l = c .before .before .before in
+    stopped _ _ _ (taken (l .before)) (l .if1 .left) (c .before .before .barred .ensures) (c .before .if2 .taken) (c .refused2 .ensures)
+
+write-logical-message-requires : tie.Need-write-logical-message-requires
+write-logical-message-requires c κs = tt
+
+same-length : tie.Need-same-length
+same-length c = search needs
+
+returns-3 : tie.Need-returns-3
+unfolding taken
+returns-3 c =
+    let k = c .before .before .before .before in
+    let l = k .before .before in
+    passed _ _ _ (taken (l .before)) (l .if1 .left) (k .before .barred .ensures) (k .if2 .left)
+    (c .before .before .write-logical-message .ensures)
+
+pub write-logical-message-spec : {M : Type 1} → statement M
+write-logical-message-spec =
     tie.close
     (tie.spec
     element-copy-out-word
@@ -64,5 +121,12 @@ logical-message-in-spec =
     element-copy-out-span-4
     span-requires-2
     flatten-logical-message-requires
-    if-same-requires
-    returns)
+    same-row-requires
+    refused-requires
+    returns
+    barred-requires
+    refused-requires-2
+    returns-2
+    write-logical-message-requires
+    same-length
+    returns-3)

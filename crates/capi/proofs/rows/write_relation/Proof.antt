@@ -1,4 +1,9 @@
+use mathlib.Core.Option.{some}
 use borrow.Author.Needs.{needs}
+use Rattle.message.specs.declared.Message.the-variants as a
+use Rattle.message.specs.Kinds.{relation}
+use Rattle.capi.specs.Flat.{messageIn}
+use Rattle.capi.proofs.Settled.{Taken, other, stopped, passed}
 use Rattle.capi.proofs.rows.write_relation.Statement.{statement}
 use Rattle.capi.proofs.rows.write_relation.Tie as tie
 
@@ -53,14 +58,78 @@ offset-requires c κs = tt
 flatten-relation-requires : tie.Need-flatten-relation-requires
 flatten-relation-requires c κs = tt
 
-if-same-requires : tie.Need-if-same-requires
-if-same-requires c κs = tt
+same-row-requires : tie.Need-same-row-requires
+same-row-requires c κs = tt
+
+refused-requires : tie.Need-refused-requires
+refused-requires c κs = tt
+
+taken :
+    (c : tie.After-same-row)
+    → let s = c .before .before .before .before .before .before .before .before .before .before .before .before in
+    let ns = s .before .before .before .before .before .before .before .before .before .before .args .row .now in
+    Taken ns (messageIn ns (some relation)) (c .same-row .result)
+taken c =
+    let columns = c .before .before .before .before in
+    let count = columns .before .before in
+    let identity = count .before .before in
+    let name = identity .before .before in
+    let namespace = name .before .before .before in
+    let relation = namespace .before .before .before in
+    let xid = relation .before .before in
+    record {
+      it = a.Relation (record {
+        xid = xid .word .result;
+        relation = relation .word2 .result;
+        namespace = namespace .span .result;
+        name = name .span2 .result;
+        identity = identity .byte .result;
+        count = count .half .result;
+        columns = columns .offset .result;
+      });
+      made = rw (
+        columns .offset .ensures,
+        count .half .ensures,
+        identity .byte .ensures,
+        name .span2 .ensures,
+        namespace .span .ensures,
+        relation .word2 .ensures,
+        xid .word .ensures,
+      );
+      tested = rw (c .same-row .ensures, c .before .before .flatten-relation .ensures);
+    }
 
 returns : tie.Need-returns
-returns c = rw (c .if-same .ensures, c .before .before .flatten-relation .ensures, c .before .before .before .before .offset .ensures, c .before .before .before .before .before .before .half .ensures, c .before .before .before .before .before .before .before .before .byte .ensures, c .before .before .before .before .before .before .before .before .before .before .span2 .ensures, c .before .before .before .before .before .before .before .before .before .before .before .before .before .span .ensures, c .before .before .before .before .before .before .before .before .before .before .before .before .before .before .before .before .word2 .ensures, c .before .before .before .before .before .before .before .before .before .before .before .before .before .before .before .before .before .before .word .ensures)
+returns c = other _ _ _ (taken (c .before .before)) (c .before .if1 .taken) (c .refused .ensures)
 
-pub relation-in-spec : {M : Type 1} → statement M
-relation-in-spec =
+barred-requires : tie.Need-barred-requires
+barred-requires c κs = tt
+
+refused-requires-2 : tie.Need-refused-requires-2
+refused-requires-2 c κs = tt
+
+returns-2 : tie.Need-returns-2
+unfolding taken
+returns-2 c =
+    let l = c .before .before .before in
+    stopped _ _ _ (taken (l .before)) (l .if1 .left) (c .before .before .barred .ensures) (c .before .if2 .taken) (c .refused2 .ensures)
+
+write-relation-requires : tie.Need-write-relation-requires
+write-relation-requires c κs = tt
+
+same-length : tie.Need-same-length
+same-length c = search needs
+
+returns-3 : tie.Need-returns-3
+unfolding taken
+returns-3 c =
+    let k = c .before .before .before .before in
+    let l = k .before .before in
+    passed _ _ _ (taken (l .before)) (l .if1 .left) (k .before .barred .ensures) (k .if2 .left)
+    (c .before .before .write-relation .ensures)
+
+pub write-relation-spec : {M : Type 1} → statement M
+write-relation-spec =
     tie.close
     (tie.spec
     element-copy-out-word
@@ -80,5 +149,12 @@ relation-in-spec =
     element-copy-out-offset
     offset-requires
     flatten-relation-requires
-    if-same-requires
-    returns)
+    same-row-requires
+    refused-requires
+    returns
+    barred-requires
+    refused-requires-2
+    returns-2
+    write-relation-requires
+    same-length
+    returns-3)

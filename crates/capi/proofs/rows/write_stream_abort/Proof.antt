@@ -1,4 +1,10 @@
+use mathlib.Core.Option.{some}
 use borrow.Author.Needs.{needs}
+use Rattle.message.specs.declared.Message.the-variants as a
+use Rattle.message.specs.Kinds.{streamAbort}
+use Rattle.message.specs.Pieces.{fieldsWritten}
+use Rattle.capi.specs.Flat.{messageIn}
+use Rattle.capi.proofs.Settled.{Taken, other, stopped, passed}
 use Rattle.capi.proofs.rows.write_stream_abort.Statement.{statement}
 use Rattle.capi.proofs.rows.write_stream_abort.Tie as tie
 
@@ -17,14 +23,56 @@ word-requires-2 c κs = tt
 flatten-stream-abort-requires : tie.Need-flatten-stream-abort-requires
 flatten-stream-abort-requires c κs = tt
 
-if-same-requires : tie.Need-if-same-requires
-if-same-requires c κs = tt
+same-row-requires : tie.Need-same-row-requires
+same-row-requires c κs = tt
+
+refused-requires : tie.Need-refused-requires
+refused-requires c κs = tt
+
+taken :
+    (c : tie.After-same-row)
+    → let ns = c .before .before .before .before .before .before .before .before .before .args .row .now in
+    Taken ns (messageIn ns (some streamAbort)) (c .same-row .result)
+taken c =
+    let sub-xid = c .before .before .before .before in
+    let xid = sub-xid .before .before in
+    record {
+      it = a.StreamAbort (xid .word .result) (sub-xid .word2 .result);
+      made = rw (sub-xid .word2 .ensures, xid .word .ensures);
+      tested = rw (c .same-row .ensures, c .before .before .flatten-stream-abort .ensures);
+    }
 
 returns : tie.Need-returns
-returns c = rw (c .if-same .ensures, c .before .before .flatten-stream-abort .ensures, c .before .before .before .before .word2 .ensures, c .before .before .before .before .before .before .word .ensures)
+returns c src = other _ _ _ (taken (c .before .before)) (c .before .if1 .taken) (c .refused .ensures)
 
-pub stream-abort-in-spec : {M : Type 1} → statement M
-stream-abort-in-spec =
+barred-requires : tie.Need-barred-requires
+barred-requires c κs = tt
+
+refused-requires-2 : tie.Need-refused-requires-2
+refused-requires-2 c κs = tt
+
+returns-2 : tie.Need-returns-2
+unfolding taken
+returns-2 c src =
+    let l = c .before .before .before in
+    stopped _ _ _ (taken (l .before)) (l .if1 .left) (c .before .before .barred .ensures) (c .before .if2 .taken) (c .refused2 .ensures)
+
+write-stream-abort-requires : tie.Need-write-stream-abort-requires
+write-stream-abort-requires c κs = tt
+
+same-length : tie.Need-same-length
+same-length c = search needs
+
+returns-3 : tie.Need-returns-3
+unfolding taken fieldsWritten
+returns-3 c src =
+    let k = c .before .before .before .before in
+    let l = k .before .before in
+    passed _ _ _ (taken (l .before)) (l .if1 .left) (k .before .barred .ensures) (k .if2 .left)
+    (c .before .before .write-stream-abort .ensures)
+
+pub write-stream-abort-spec : {M : Type 1} → statement M
+write-stream-abort-spec =
     tie.close
     (tie.spec
     element-copy-out-word
@@ -32,5 +80,12 @@ stream-abort-in-spec =
     element-copy-out-word-2
     word-requires-2
     flatten-stream-abort-requires
-    if-same-requires
-    returns)
+    same-row-requires
+    refused-requires
+    returns
+    barred-requires
+    refused-requires-2
+    returns-2
+    write-stream-abort-requires
+    same-length
+    returns-3)
