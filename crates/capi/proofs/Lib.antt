@@ -6,6 +6,7 @@ pub mod FlatForm
 pub mod ReadFits
 pub mod TakenBack
 pub mod Told
+pub mod Settled
 pub mod Steps
 pub mod Low
 pub mod Put

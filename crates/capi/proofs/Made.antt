@@ -18,8 +18,6 @@ use Rattle.message.specs.Layout.{Part}
 use Rattle.message.specs.Kinds.{Kind, begin, commit, origin, relation, type, insert, update, delete, truncate, message, streamStart, streamStop, streamCommit, streamAbort, layout, numbered}
 use Rattle.message.specs.Messages.{messageOf, oldTuple}
 use Rattle.message.specs.Encode.{kindOfMessage, partsOf, oldNumbers}
-use Rattle.capi.specs.declared.unflat.Found.{Found}
-use Rattle.capi.specs.declared.unflat.Found.the-variants as found
 use Rattle.capi.specs.Flat.{flat, held, widths, taken, parted, kindIn, messageIn, same, whole}
 use Rattle.capi.proofs.Held.{held-small}
 use Rattle.capi.proofs.Fitting.{Fit, PartsFit, Fits, heldParts}
@@ -27,7 +25,7 @@ use Rattle.capi.proofs.Fitting.{Fit, PartsFit, Fits, heldParts}
 -- THE ROW OF A MESSAGE
 
 -- the message that a flat form's numbers make
-pub made : (m : Message) → messageIn (flat m) (kindIn (flat m)) ≡ found.Message (messageOf (kindOfMessage m) (heldParts (layout (kindOfMessage m)) (partsOf m)))
+pub made : (m : Message) → messageIn (flat m) (kindIn (flat m)) ≡ some (messageOf (kindOfMessage m) (heldParts (layout (kindOfMessage m)) (partsOf m)))
 unfolding held numbered
 made (a.Begin m) = refl
 made (a.Commit m) = refl
@@ -37,7 +35,7 @@ made (a.«Type» m) = refl
 made (a.Insert m) = refl
 made (a.Update m) = go (m .old)
   where
-    go : (o : OldTuple) → (let u = a.Update (record { xid = m .xid; relation = m .relation; old = o; tuple = m .tuple }) in messageIn (flat u) (kindIn (flat u)) ≡ found.Message (messageOf (kindOfMessage u) (heldParts (layout (kindOfMessage u)) (partsOf u))))
+    go : (o : OldTuple) → (let u = a.Update (record { xid = m .xid; relation = m .relation; old = o; tuple = m .tuple }) in messageIn (flat u) (kindIn (flat u)) ≡ some (messageOf (kindOfMessage u) (heldParts (layout (kindOfMessage u)) (partsOf u))))
     go Nothing = refl
     go (Key start) = refl
     go (Full start) = refl
@@ -52,11 +50,11 @@ made (a.StreamAbort xid sub) = refl
 -- THE MESSAGE OF A ROW
 
 -- is whole
-pub whole-says : (ns : List ℕ) (f : Found) (m : Message) → whole ns f ≡ found.Message m → (f ≡ found.Message m) × (same 16 (flat m) ns ≡ true)
-whole-says ns found.Nothing m q = let z : _≡_ {A = ℕ} 0 1 = cc in absurd (omega arith)
-whole-says ns (found.Message k) m q = go (same 16 (flat k) ns) refl q
+pub whole-says : (ns : List ℕ) (f : Option Message) (m : Message) → whole ns f ≡ some m → (f ≡ some m) × (same 16 (flat m) ns ≡ true)
+whole-says ns none m q = let z : _≡_ {A = ℕ} 0 1 = cc in absurd (omega arith)
+whole-says ns (some k) m q = go (same 16 (flat k) ns) refl q
   where
-    go : (t : Bool) → same 16 (flat k) ns ≡ t → cond t (found.Message k) found.Nothing ≡ found.Message m → (found.Message k ≡ found.Message m) × (same 16 (flat m) ns ≡ true)
+    go : (t : Bool) → same 16 (flat k) ns ≡ t → cond t (some k) none ≡ some m → (some k ≡ some m) × (same 16 (flat m) ns ≡ true)
     go true s q = let e : k ≡ m = cc in (q, rw (sym e) s)
     go false s q = let z : _≡_ {A = ℕ} 0 1 = cc in absurd (omega arith)
 
@@ -102,6 +100,6 @@ made-fits ns streamStop = (tt, tt)
 made-fits ns streamCommit = (rw (time-bits (getD ns 5 0)) (parted-fit ns 1 (layout streamCommit)), time-fits (getD ns 5 0))
 made-fits ns streamAbort = (parted-fit ns 1 (layout streamAbort), tt)
 
-pub in-fits : (ns : List ℕ) (k : Option Kind) (m : Message) → messageIn ns k ≡ found.Message m → Fits m
+pub in-fits : (ns : List ℕ) (k : Option Kind) (m : Message) → messageIn ns k ≡ some m → Fits m
 in-fits ns none m q = let z : _≡_ {A = ℕ} 0 1 = cc in absurd (omega arith)
 in-fits ns (some k) m q = let e : messageOf k (parted ns 1 (layout k)) ≡ m = cc in subst Fits e (made-fits ns k)

@@ -16,16 +16,25 @@ unfolding same
 step zero a b h = absurd (omega arith)
 step (suc j) a b h = let e : suc j - 1 ≡ j = omega arith in rw e
 
-module _ (k n : ℕ) (a b : List ℕ) (more : 0 < k) (so-far : same k a b ≡ same n a b) where
-  pub differs : (getD a (k - 1) 0 ≡ getD b (k - 1) 0 → ⊥) → false ≡ same n a b
-  differs d = sym (step k a b more ∙ rw (ne-eqb (getD a (k - 1) 0) (getD b (k - 1) 0) d)) ∙ so-far
+and-true : (t : Bool) → t && true ≡ t
+and-true true = refl
+and-true false = refl
 
-  pub agrees : getD a (k - 1) 0 ≡ getD b (k - 1) 0 → same (k - 1) a b ≡ same n a b
-  agrees e = sym (step k a b more ∙ rw (eq-eqb (getD a (k - 1) 0) (getD b (k - 1) 0) e)) ∙ so-far
+and-false : (t : Bool) → t && false ≡ false
+and-false true = refl
+and-false false = refl
 
-pub all-same : (k n : ℕ) (a b : List ℕ) → k ≡ 0 → same k a b ≡ same n a b → true ≡ same n a b
-unfolding same
-all-same k n a b z so-far = sym (rw z) ∙ so-far
+-- a flag t so far, and what the first k numbers say
+module _ (t : Bool) (k : ℕ) (a b : List ℕ) {all : Bool} (so-far : t && same k a b ≡ all) where
+  pub differs : 0 < k → (getD a (k - 1) 0 ≡ getD b (k - 1) 0 → ⊥) → false ≡ all
+  differs more d = sym (rw (step k a b more, ne-eqb (getD a (k - 1) 0) (getD b (k - 1) 0) d) (and-false t)) ∙ so-far
+
+  pub agrees : 0 < k → getD a (k - 1) 0 ≡ getD b (k - 1) 0 → t && same (k - 1) a b ≡ all
+  agrees more e = sym (rw (step k a b more, eq-eqb (getD a (k - 1) 0) (getD b (k - 1) 0) e)) ∙ so-far
+
+  pub all-same : k ≡ 0 → t ≡ all
+  unfolding same
+  all-same z = sym (rw z (and-true t)) ∙ so-far
 
 -- WHAT SAMENESS SAYS
 

@@ -7,6 +7,7 @@ use mathlib.Core.Option.{Option, none, some}
 use lib.Dec.{eqb, ltb}
 use lib.ListN.{getD, length}
 use Rattle.message.specs.declared.Message.{Message}
+use Rattle.message.specs.declared.Version.{Version}
 use Rattle.message.specs.declared.Read.{Read}
 use Rattle.message.specs.declared.Read.the-variants as answer
 use Rattle.message.specs.Layout.{Field, Part, number, constant, letter, text, value, column, one, blockXid, groups, tuple, optionalTuple}
@@ -18,8 +19,6 @@ use Rattle.writer.specs.declared.Written.{Written}
 use Rattle.writer.specs.declared.Written.the-variants as written
 use Rattle.writer.specs.Answer.{answerOf, outputOf}
 use Rattle.capi.specs.Filled.{padded, inside}
-use Rattle.capi.specs.declared.unflat.Found.{Found}
-use Rattle.capi.specs.declared.unflat.Found.the-variants as found
 
 -- 16 numbers
 abbrev pub row : List ℕ → List ℕ
@@ -75,9 +74,9 @@ abbrev pub kindIn : List ℕ → Option Kind
 kindIn ns = kindNumbered (held 1 (getD ns 0 0))
 
 -- the message of a kind that a row's numbers make
-abbrev pub messageIn : List ℕ → Option Kind → Found
-messageIn ns none = found.Nothing
-messageIn ns (some k) = found.Message (messageOf k (parted ns 1 (layout k)))
+abbrev pub messageIn : List ℕ → Option Kind → Option Message
+messageIn ns none = none
+messageIn ns (some k) = some (messageOf k (parted ns 1 (layout k)))
 
 -- whether the first n numbers are the same
 unfoldable pub same : ℕ → List ℕ → List ℕ → Bool
@@ -85,12 +84,12 @@ same zero a b = true
 same (suc n) a b = eqb (getD a n 0) (getD b n 0) && same n a b
 
 -- a message, where the row is its flat form
-abbrev pub whole : List ℕ → Found → Found
-whole ns found.Nothing = found.Nothing
-whole ns (found.Message m) = cond (same 16 (flat m) ns) (found.Message m) found.Nothing
+abbrev pub whole : List ℕ → Option Message → Option Message
+whole ns none = none
+whole ns (some m) = cond (same 16 (flat m) ns) (some m) none
 
 -- the message whose flat form a row of 16 numbers is
-abbrev pub unflat : List ℕ → Found
+abbrev pub unflat : List ℕ → Option Message
 unflat ns = whole ns (messageIn ns (kindIn ns))
 
 -- READING
@@ -112,12 +111,12 @@ readRow (answer.Refused r) = row (r .offset ∷ [])
 -- WRITING
 
 -- what writing the message of a row gives: one that is no message's is refused before all else
-abbrev pub writeFound : (version inBlock : ℕ) → Found → List ℕ → Writing
-writeFound version inBlock found.Nothing src = refused 4 0
-writeFound version inBlock (found.Message m) src = writeMessage (record { number = version }) (inside inBlock) m src
+abbrev pub writeFound : Version → Bool → Option Message → List ℕ → Writing
+writeFound v b none src = refused 4 0
+writeFound v b (some m) src = writeMessage v b m src
 
 abbrev pub writeFlat : (version inBlock : ℕ) → (row source : List ℕ) → Writing
-writeFlat version inBlock ns src = writeFound version inBlock (unflat ns) src
+writeFlat version inBlock ns src = writeFound (record { number = version }) (inside inBlock) (unflat ns) src
 
 -- the number that is returned: 0, or a refusal's
 abbrev pub writtenNumber : Written → ℕ

@@ -2,3 +2,4 @@ pub mod Filled
 pub mod Flat
 pub mod Stepping
 pub mod Sessions
+pub mod Barred

@@ -1,6 +1,6 @@
 mod flat;
 pub mod reading;
+mod rows;
 pub mod sessions;
 pub mod stepping;
-mod unflat;
 pub mod writing;

@@ -1,0 +1,122 @@
+use mathlib.Core.Option.{some}
+use borrow.Author.Needs.{needs}
+use Rattle.message.specs.declared.Message.the-variants as a
+use Rattle.message.specs.Kinds.{type}
+use Rattle.capi.specs.Flat.{messageIn}
+use Rattle.capi.proofs.Settled.{Taken, other, stopped, passed}
+use Rattle.capi.proofs.rows.write_type.Statement.{statement}
+use Rattle.capi.proofs.rows.write_type.Tie as tie
+
+element-copy-out-word : tie.Need-element-copy-out-word
+element-copy-out-word c = search needs
+
+word-requires : tie.Need-word-requires
+word-requires c κs = tt
+
+element-copy-out-word-2 : tie.Need-element-copy-out-word-2
+element-copy-out-word-2 c = search needs
+
+word-requires-2 : tie.Need-word-requires-2
+word-requires-2 c κs = tt
+
+element-copy-out-span : tie.Need-element-copy-out-span
+element-copy-out-span c = search needs
+
+element-copy-out-span-2 : tie.Need-element-copy-out-span-2
+element-copy-out-span-2 c = search needs
+
+span-requires : tie.Need-span-requires
+span-requires c κs = tt
+
+element-copy-out-span-3 : tie.Need-element-copy-out-span-3
+element-copy-out-span-3 c = search needs
+
+element-copy-out-span-4 : tie.Need-element-copy-out-span-4
+element-copy-out-span-4 c = search needs
+
+span-requires-2 : tie.Need-span-requires-2
+span-requires-2 c κs = tt
+
+flatten-type-requires : tie.Need-flatten-type-requires
+flatten-type-requires c κs = tt
+
+same-row-requires : tie.Need-same-row-requires
+same-row-requires c κs = tt
+
+refused-requires : tie.Need-refused-requires
+refused-requires c κs = tt
+
+taken :
+    (c : tie.After-same-row)
+    → let s = c .before .before .before .before .before .before .before .before .before .before .before .before in
+    let ns = s .before .before .before .before .args .row .now in
+    Taken ns (messageIn ns (some type)) (c .same-row .result)
+taken c =
+    let name = c .before .before .before .before in
+    let namespace = name .before .before .before in
+    let oid = namespace .before .before .before in
+    let xid = oid .before .before in
+    record {
+      it = a.«Type» (record {
+        xid = xid .word .result;
+        oid = oid .word2 .result;
+        namespace = namespace .span .result;
+        name = name .span2 .result;
+      });
+      made = rw (name .span2 .ensures, namespace .span .ensures, oid .word2 .ensures, xid .word .ensures);
+      tested = rw (c .same-row .ensures, c .before .before .flatten-type .ensures);
+    }
+
+returns : tie.Need-returns
+returns c = other _ _ _ (taken (c .before .before)) (c .before .if1 .taken) (c .refused .ensures)
+
+barred-requires : tie.Need-barred-requires
+barred-requires c κs = tt
+
+refused-requires-2 : tie.Need-refused-requires-2
+refused-requires-2 c κs = tt
+
+returns-2 : tie.Need-returns-2
+unfolding taken
+returns-2 c =
+    let l = c .before .before .before in
+    stopped _ _ _ (taken (l .before)) (l .if1 .left) (c .before .before .barred .ensures) (c .before .if2 .taken) (c .refused2 .ensures)
+
+write-type-requires : tie.Need-write-type-requires
+write-type-requires c κs = tt
+
+same-length : tie.Need-same-length
+same-length c = search needs
+
+returns-3 : tie.Need-returns-3
+unfolding taken
+returns-3 c =
+    let k = c .before .before .before .before in
+    let l = k .before .before in
+    passed _ _ _ (taken (l .before)) (l .if1 .left) (k .before .barred .ensures) (k .if2 .left)
+    (c .before .before .write-type .ensures)
+
+pub write-type-spec : {M : Type 1} → statement M
+write-type-spec =
+    tie.close
+    (tie.spec
+    element-copy-out-word
+    word-requires
+    element-copy-out-word-2
+    word-requires-2
+    element-copy-out-span
+    element-copy-out-span-2
+    span-requires
+    element-copy-out-span-3
+    element-copy-out-span-4
+    span-requires-2
+    flatten-type-requires
+    same-row-requires
+    refused-requires
+    returns
+    barred-requires
+    refused-requires-2
+    returns-2
+    write-type-requires
+    same-length
+    returns-3)
