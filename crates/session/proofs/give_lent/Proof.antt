@@ -89,9 +89,6 @@ arr-u8x256 zs = arrayVal (map (vint w8) zs)
 abbrev with : Session → ℕ → ℕ → ℕ → ℕ → ℕ → List ℕ → List ℕ → List ℕ → List ℕ → List ℕ → List ℕ → List ℕ → Session
 with h z0 z1 z2 z3 z4 z5 z6 z7 z8 z9 z10 z11 = record { version = z0; phase = z1; «current_xid» = z2; «final_lsn» = z3; changed = z4; «stream_xids» = z5; «stream_changed» = z6; owners = z7; oids = z8; tags = z9; identities = z10; columns = z11 }
 
-with-is : (h : Session) (z0 : ℕ) (z1 : ℕ) (z2 : ℕ) (z3 : ℕ) (z4 : ℕ) (z5 : List ℕ) (z6 : List ℕ) (z7 : List ℕ) (z8 : List ℕ) (z9 : List ℕ) (z10 : List ℕ) (z11 : List ℕ) (y0 : ℕ) (y1 : ℕ) (y2 : ℕ) (y3 : ℕ) (y4 : ℕ) (y5 : List ℕ) (y6 : List ℕ) (y7 : List ℕ) (y8 : List ℕ) (y9 : List ℕ) (y10 : List ℕ) (y11 : List ℕ) → z0 ≡ y0 → z1 ≡ y1 → z2 ≡ y2 → z3 ≡ y3 → z4 ≡ y4 → z5 ≡ y5 → z6 ≡ y6 → z7 ≡ y7 → z8 ≡ y8 → z9 ≡ y9 → z10 ≡ y10 → z11 ≡ y11 → with h z0 z1 z2 z3 z4 z5 z6 z7 z8 z9 z10 z11 ≡ with h y0 y1 y2 y3 y4 y5 y6 y7 y8 y9 y10 y11
-with-is h z0 z1 z2 z3 z4 z5 z6 z7 z8 z9 z10 z11 y0 y1 y2 y3 y4 y5 y6 y7 y8 y9 y10 y11 e0 e1 e2 e3 e4 e5 e6 e7 e8 e9 e10 e11 = ap (λ (t : ℕ). with h t z1 z2 z3 z4 z5 z6 z7 z8 z9 z10 z11) e0 ∙ (ap (λ (t : ℕ). with h y0 t z2 z3 z4 z5 z6 z7 z8 z9 z10 z11) e1 ∙ (ap (λ (t : ℕ). with h y0 y1 t z3 z4 z5 z6 z7 z8 z9 z10 z11) e2 ∙ (ap (λ (t : ℕ). with h y0 y1 y2 t z4 z5 z6 z7 z8 z9 z10 z11) e3 ∙ (ap (λ (t : ℕ). with h y0 y1 y2 y3 t z5 z6 z7 z8 z9 z10 z11) e4 ∙ (ap (λ (t : List ℕ). with h y0 y1 y2 y3 y4 t z6 z7 z8 z9 z10 z11) e5 ∙ (ap (λ (t : List ℕ). with h y0 y1 y2 y3 y4 y5 t z7 z8 z9 z10 z11) e6 ∙ (ap (λ (t : List ℕ). with h y0 y1 y2 y3 y4 y5 y6 t z8 z9 z10 z11) e7 ∙ (ap (λ (t : List ℕ). with h y0 y1 y2 y3 y4 y5 y6 y7 t z9 z10 z11) e8 ∙ (ap (λ (t : List ℕ). with h y0 y1 y2 y3 y4 y5 y6 y7 y8 t z10 z11) e9 ∙ (ap (λ (t : List ℕ). with h y0 y1 y2 y3 y4 y5 y6 y7 y8 y9 t z11) e10 ∙ (ap (λ (t : List ℕ). with h y0 y1 y2 y3 y4 y5 y6 y7 y8 y9 y10 t) e11)))))))))))
-
 -- a struct's row has `map (λ v. v)` of an array field's list
 ids : (zs : List ℕ) → map (λ (v : ℕ). v) zs ≡ zs
 ids [] = refl
