@@ -4,15 +4,33 @@ use crate::feed::Feed;
 use std::hint::black_box;
 use std::time::{Duration, Instant};
 
-type Contenders<'a> = Vec<Box<dyn Contender<'a> + 'a>>;
+pub type Contenders<'a> = Vec<Box<dyn Contender<'a> + 'a>>;
 
 /// One contender's run on a feed: how long it took, and what it added up.
 type Run<'a> = fn(&mut dyn Contender<'a>, &Feed<'a>) -> (Duration, Totals);
+
+/// A feed, and the same with its changes spread over so many tables.
+pub struct Feeds<'a> {
+    pub feed: Feed<'a>,
+    pub spread: Feed<'a>,
+    pub tables: usize,
+}
 
 struct Task<'f, 'a> {
     title: String,
     feed: &'f Feed<'a>,
     run: Run<'a>,
+}
+
+fn tasks<'f, 'a>(feeds: &'f Feeds<'a>) -> [Task<'f, 'a>; 5] {
+    let task = |title: &str, feed, run| Task { title: title.into(), feed, run };
+    [
+        task("reading", &feeds.feed, reading as Run<'a>),
+        task("reading and session", &feeds.feed, session),
+        task(&format!("reading and session, {} tables", feeds.tables), &feeds.spread, session),
+        task("writing back", &feeds.feed, writing),
+        task("stepping through all columns", &feeds.feed, stepping),
+    ]
 }
 
 fn timed<T>(run: impl FnOnce() -> T) -> (Duration, T) {
@@ -82,20 +100,12 @@ fn copying(feed: &Feed) -> Duration {
     time
 }
 
-/// The least and the median.
-fn least_and_median(mut times: Vec<Duration>) -> [f64; 2] {
-    times.sort();
-    [times[0], times[times.len() / 2]].map(|time| time.as_nanos() as f64)
-}
+/// The times of one task: of each contender, one for each round.
+type Times = Vec<Vec<Duration>>;
 
-fn print_line(name: &str, feed: &Feed, [least, median]: [f64; 2], ratio: &str) {
-    let messages = feed.messages.len() as f64;
-    let rate = feed.bytes as f64 / least * 1e3;
-    println!("  {name:<12}{:>9.1}{:>9.1}{rate:>9.0}{ratio}", least / messages, median / messages);
-}
-
-/// Runs every task, in turns: the times of each contender at each, and those of copying.
-fn take_turns<'a>(contenders: &mut Contenders<'a>, tasks: &[Task<'_, 'a>], rounds: usize) -> (Vec<Vec<Vec<Duration>>>, Vec<Duration>) {
+/// Runs every task, in turns: its times, and last those of copying.
+pub fn take_turns<'a>(contenders: &mut Contenders<'a>, feeds: &Feeds<'a>, rounds: usize) -> Vec<Times> {
+    let tasks = tasks(feeds);
     let mut times = vec![vec![vec![]; contenders.len()]; tasks.len()];
     let mut copies = vec![];
     for _ in 0..rounds {
@@ -109,32 +119,49 @@ fn take_turns<'a>(contenders: &mut Contenders<'a>, tasks: &[Task<'_, 'a>], round
         }
         copies.push(copying(tasks[0].feed));
     }
-    (times, copies)
+    times.push(vec![copies]);
+    times
 }
 
-pub fn measure<'a>(contenders: &mut Contenders<'a>, feed: &Feed<'a>, spread: &Feed<'a>, tables: usize, rounds: usize) {
-    let task = |title: &str, feed, run| Task { title: title.into(), feed, run };
-    let tasks = [
-        task("reading", feed, reading as Run<'a>),
-        task("reading and session", feed, session),
-        task(&format!("reading and session, {tables} tables"), spread, session),
-        task("writing back", feed, writing),
-        task("stepping through all columns", feed, stepping),
-    ];
-    let (times, copies) = take_turns(contenders, &tasks, rounds);
-    let rust = contenders.iter().position(|contender| contender.name() == "Rust").unwrap();
+/// Times as text: a line for each task and contender, in nanoseconds.
+pub fn to_text(times: &[Times]) -> String {
+    let line = |times: &Vec<Duration>| times.iter().map(|time| format!("{} ", time.as_nanos())).collect::<String>() + "\n";
+    times.iter().flatten().map(line).collect()
+}
 
-    println!("{rounds} rounds, in turns");
+/// The least and the median.
+fn least_and_median(mut times: Vec<f64>) -> [f64; 2] {
+    times.sort_by(f64::total_cmp);
+    [times[0], times[times.len() / 2]]
+}
+
+fn print_line(name: &str, feed: &Feed, [least, median]: [f64; 2], ratio: &str) {
+    let messages = feed.messages.len() as f64;
+    let rate = feed.bytes as f64 / least * 1e3;
+    println!("  {name:<12}{:>9.1}{:>9.1}{rate:>9.0}{ratio}", least / messages, median / messages);
+}
+
+/// Prints the table of what `to_text` gave, once or more often.
+pub fn print_table<'a>(contenders: &Contenders<'a>, feeds: &Feeds<'a>, texts: &[String]) {
+    let rust = contenders.iter().position(|contender| contender.name() == "Rust").unwrap();
+    let numbers = |line: &str| line.split_whitespace().map(|word| word.parse().expect("a number")).collect::<Vec<f64>>();
+    let joined = |mut all: Vec<Vec<f64>>, more: Vec<Vec<f64>>| {
+        all.iter_mut().zip(more).for_each(|(all, more)| all.extend(more));
+        all
+    };
+    let times = texts.iter().map(|text| text.lines().map(numbers).collect()).reduce(joined).expect("a file of times");
+    let mut results = times.into_iter().map(least_and_median);
+
     println!("                    ns/message            MB/s     ratio to Rust");
     println!("                 least   median                   least   median");
-    for (task, times) in tasks.iter().zip(times) {
+    for task in tasks(feeds) {
         println!("{}", task.title);
-        let results: Vec<_> = times.into_iter().map(least_and_median).collect();
+        let results: Vec<_> = results.by_ref().take(contenders.len()).collect();
         for (contender, result) in contenders.iter().zip(&results) {
             let [least, median] = [0, 1].map(|i| result[i] / results[rust][i]);
             print_line(contender.name(), task.feed, *result, &format!("{least:>9.2}{median:>9.2}"));
         }
     }
     println!("copying, the limit");
-    print_line("memcpy", feed, least_and_median(copies), "");
+    print_line("memcpy", &feeds.feed, results.next().expect("the times of copying"), "");
 }
