@@ -104,6 +104,22 @@ fn back_and_changed() {
     tally.has_seen(&[0, 1, 2, 3, 4, 6, 13], 100);
 }
 
+/// Texts and contents of every length up to ten times the longest block that is copied at once, with and without room behind them.
+#[test]
+fn parts_of_every_length() {
+    let source: Vec<u8> = (0..400).map(|i| 1 + (i % 251) as u8).collect();
+    for length in 0..=320 {
+        for start in [0, 1, 13, 80] {
+            let part = Span { start, length };
+            let Fields(flat) = Fields::logical(None, true, 5, part, part);
+            let whole = 1 + 1 + 8 + length + 1 + 4 + length;
+            for room in [whole, whole + 1, whole + 40] {
+                assert_eq!(compare(1, false, &flat, &source, room), 0);
+            }
+        }
+    }
+}
+
 /// Sixteen numbers that mean nothing.
 #[test]
 fn made_up_numbers() {
