@@ -124,7 +124,7 @@ fn has_letter(version: Version, in_block: bool, bytes: &[u8]) -> bool
     0 < bytes.len()
 }
 
-// Reads one message. Most kinds of most messages are read straight into their row, with no enum of all kinds between.
+// Reads one message. The kinds of most messages are laid straight into their row, with no enum of all kinds between.
 #[no_mangle]
 pub extern "C" fn kq_read(version: u32, in_block: u32, bytes: &[u8], out: &mut [u64; 16]) -> u32
     ensures { λ r. ⌜ (r ≡ readNumber (readFlat version «in_block» (now (bytes .entry)))) × (now (out .exit) ≡ readRow (readFlat version «in_block» (now (bytes .entry)))) ⌝ }

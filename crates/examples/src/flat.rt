@@ -1,7 +1,6 @@
 // A message as the list of its numbers, in the form that the second reader gives.
 ghost use mathlib.Core.Path.{_≡_};
 ghost use mathlib.Core.Bool.{true};
-ghost use Prim.Native.Nat.{_≤_};
 ghost use lib.ListN.{length};
 ghost use Rattle.examples.specs.Answers.{numberOf, offsetOf, Same};
 use crate::text;
