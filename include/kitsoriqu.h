@@ -105,7 +105,8 @@ uint32_t kq_column_start(uint32_t version, uint32_t in_block, const uint8_t *byt
 uint32_t kq_column_step(uint32_t section, const uint8_t *bytes, size_t len, uint64_t position[2], uint64_t out[KQ_STEP]);
 
 /* A session: numbers only, each content of which means something, so that a made-up one is answered too. Start it with one of the two
- * functions below and leave its fields alone. It may be moved and copied; one session must not be given two messages at once. */
+ * functions below and leave its fields alone: they are named here for their sizes, and may lie otherwise in another version of the
+ * library. It may be moved and copied; one session must not be given two messages at once. */
 typedef struct kq_session {
     uint32_t version;
     uint8_t phase;
@@ -114,8 +115,8 @@ typedef struct kq_session {
     uint8_t changed;
     uint32_t stream_xids[16];
     uint8_t stream_changed[16];
-    uint32_t owners[256];
-    uint32_t oids[256];
+    uint16_t rows;
+    uint64_t keys[256];
     uint64_t tags[256];
     uint8_t identities[256];
     uint16_t columns[256];

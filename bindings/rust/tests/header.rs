@@ -65,7 +65,7 @@ macro_rules! fields {
 #[test]
 fn header_and_declarations_agree() {
     let fields =
-        fields![version, phase, current_xid, final_lsn, changed, stream_xids, stream_changed, owners, oids, tags, identities, columns];
+        fields![version, phase, current_xid, final_lsn, changed, stream_xids, stream_changed, rows, keys, tags, identities, columns];
     let mut program = String::from("#include <kitsoriqu.h>\n#include <stdio.h>\nint main(void) {\n");
     let mut expected = String::new();
     let mut compare = |name: String, value: u64| {

@@ -1,14 +1,12 @@
--- The laws of `rowsOf`: five lists of numbers are one list of rows.
+-- The laws of `rowsOf`: four lists of numbers are one list of rows.
 use mathlib.Core.Path.{_≡_, refl, sym, _∙_, ap}
 use mathlib.Core.List.{List, [], _∷_}
-use mathlib.Core.Bool.{Bool, true, false, cond}
 use Prim.Native.Nat.{ℕ, zero, suc, _<_}
 use native.Mathlib.Omega.{arith}
-use lib.Dec.{eqb}
 use lib.ListN.{length, getD, set}
 use lib.Seq.{ext-getD}
-use Rattle.catalog.specs.Lists.{any, indexOf, each, change}
-use Rattle.catalog.specs.Table.{Row, row, rowsOf, keysOf, first, rest, Sized, freeRow, is, isFree, keyIs, shared, sharedOwner}
+use Rattle.catalog.specs.Lists.{each}
+use Rattle.catalog.specs.Table.{Row, row, rowsOf, first, rest, Sized, noRow}
 
 -- a column's head and tail
 pub first-is : (l : List ℕ) → first l ≡ getD l 0 0
@@ -39,42 +37,32 @@ pub rest-later : (l : List ℕ) (i v : ℕ) → rest (set l (suc i) v) ≡ set (
 rest-later [] i v = refl
 rest-later (a ∷ l) i v = refl
 
-pub rows-length : (owners oids tags identities columns : List ℕ) → length (rowsOf owners oids tags identities columns) ≡ length owners
-rows-length [] oids tags identities columns = refl
-rows-length (a ∷ owners) oids tags identities columns = ap suc (rows-length owners (rest oids) (rest tags) (rest identities) (rest columns))
+pub rows-length : (keys tags identities columns : List ℕ) → length (rowsOf keys tags identities columns) ≡ length keys
+rows-length [] tags identities columns = refl
+rows-length (a ∷ keys) tags identities columns = ap suc (rows-length keys (rest tags) (rest identities) (rest columns))
 
 -- a row by its index
-pub rows-at : (owners oids tags identities columns : List ℕ) (i : ℕ) → i < length owners
-    → getD (rowsOf owners oids tags identities columns) i freeRow ≡ row (getD owners i 0) (getD oids i 0) (getD tags i 0) (getD identities i 0) (getD columns i 0)
-rows-at [] oids tags identities columns i h = absurd (omega (arith, h))
-rows-at (a ∷ owners) oids tags identities columns zero h = rw (← first-is oids, ← first-is tags, ← first-is identities, ← first-is columns)
-rows-at (a ∷ owners) oids tags identities columns (suc i) h =
-    rows-at owners (rest oids) (rest tags) (rest identities) (rest columns) i (omega (arith, h)) ∙ rw (rest-at oids i, rest-at tags i, rest-at identities i, rest-at columns i)
+pub rows-at : (keys tags identities columns : List ℕ) (i : ℕ) → i < length keys
+    → getD (rowsOf keys tags identities columns) i noRow ≡ row (getD keys i 0) (getD tags i 0) (getD identities i 0) (getD columns i 0)
+rows-at [] tags identities columns i h = absurd (omega (arith, h))
+rows-at (a ∷ keys) tags identities columns zero h = rw (← first-is tags, ← first-is identities, ← first-is columns)
+rows-at (a ∷ keys) tags identities columns (suc i) h =
+    rows-at keys (rest tags) (rest identities) (rest columns) i (omega (arith, h)) ∙ rw (rest-at tags i, rest-at identities i, rest-at columns i)
 
 -- a row that is stored
-pub rows-set : (owners oids tags identities columns : List ℕ) (i : ℕ) (h o g d c : ℕ)
-    → i < length owners → i < length oids → i < length tags → i < length identities → i < length columns
-    → rowsOf (set owners i h) (set oids i o) (set tags i g) (set identities i d) (set columns i c) ≡ set (rowsOf owners oids tags identities columns) i (row h o g d c)
-rows-set [] oids tags identities columns i h o g d c b1 b2 b3 b4 b5 = refl
-rows-set (a ∷ owners) oids tags identities columns zero h o g d c b1 b2 b3 b4 b5 =
-    rw (first-set oids o b2, first-set tags g b3, first-set identities d b4, first-set columns c b5, rest-set oids o, rest-set tags g, rest-set identities d, rest-set columns c)
-rows-set (a ∷ owners) oids tags identities columns (suc i) h o g d c b1 b2 b3 b4 b5 =
-    rw (first-later oids i o, first-later tags i g, first-later identities i d, first-later columns i c, rest-later oids i o, rest-later tags i g, rest-later identities i d, rest-later columns i c)
-    (ap (λ (l : List Row). row a (first oids) (first tags) (first identities) (first columns) ∷ l)
-    (rows-set owners (rest oids) (rest tags) (rest identities) (rest columns) i h o g d c (omega (arith, b1)) (rest-short oids i b2) (rest-short tags i b3) (rest-short identities i b4) (rest-short columns i b5)))
-
--- an owner that is stored
-pub rows-set-owner : (owners oids tags identities columns : List ℕ) (i h : ℕ) → i < length owners
-    → rowsOf (set owners i h) oids tags identities columns ≡ set (rowsOf owners oids tags identities columns) i (row h (getD oids i 0) (getD tags i 0) (getD identities i 0) (getD columns i 0))
-rows-set-owner [] oids tags identities columns i h b = refl
-rows-set-owner (a ∷ owners) oids tags identities columns zero h b = rw (← first-is oids, ← first-is tags, ← first-is identities, ← first-is columns)
-rows-set-owner (a ∷ owners) oids tags identities columns (suc i) h b =
-    rw (← rest-at oids i, ← rest-at tags i, ← rest-at identities i, ← rest-at columns i)
-    (ap (λ (l : List Row). row a (first oids) (first tags) (first identities) (first columns) ∷ l)
-    (rows-set-owner owners (rest oids) (rest tags) (rest identities) (rest columns) i h (omega (arith, b))))
+pub rows-set : (keys tags identities columns : List ℕ) (i : ℕ) (k g d c : ℕ)
+    → i < length keys → i < length tags → i < length identities → i < length columns
+    → rowsOf (set keys i k) (set tags i g) (set identities i d) (set columns i c) ≡ set (rowsOf keys tags identities columns) i (row k g d c)
+rows-set [] tags identities columns i k g d c b1 b3 b4 b5 = refl
+rows-set (a ∷ keys) tags identities columns zero k g d c b1 b3 b4 b5 =
+    rw (first-set tags g b3, first-set identities d b4, first-set columns c b5, rest-set tags g, rest-set identities d, rest-set columns c)
+rows-set (a ∷ keys) tags identities columns (suc i) k g d c b1 b3 b4 b5 =
+    rw (first-later tags i g, first-later identities i d, first-later columns i c, rest-later tags i g, rest-later identities i d, rest-later columns i c)
+    (ap (λ (l : List Row). row a (first tags) (first identities) (first columns) ∷ l)
+    (rows-set keys (rest tags) (rest identities) (rest columns) i k g d c (omega (arith, b1)) (rest-short tags i b3) (rest-short identities i b4) (rest-short columns i b5)))
 
 -- rows taken apart and put together are as they were
-pub rows-each : (l : List Row) → rowsOf (each (λ r. r .holder) l) (each (λ r. r .oid) l) (each (λ r. r .tag) l) (each (λ r. r .identity) l) (each (λ r. r .columns) l) ≡ l
+pub rows-each : (l : List Row) → rowsOf (each (λ r. r .key) l) (each (λ r. r .tag) l) (each (λ r. r .identity) l) (each (λ r. r .columns) l) ≡ l
 rows-each [] = refl
 rows-each (r ∷ l) = ap (λ (m : List Row). r ∷ m) (rows-each l)
 
@@ -89,65 +77,29 @@ module _ {A : Type 0} (f : A → ℕ) where
   each-at d (a ∷ l) (suc i) h = each-at d l i (omega (arith, h))
 
 -- a column of the rows is the list that it was made of
-module _ (owners oids tags identities columns : List ℕ) where
-  column : (f : Row → ℕ) (l : List ℕ) → length l ≡ length owners
-      → ((i : ℕ) → f (row (getD owners i 0) (getD oids i 0) (getD tags i 0) (getD identities i 0) (getD columns i 0)) ≡ getD l i 0)
-      → each f (rowsOf owners oids tags identities columns) ≡ l
+module _ (keys tags identities columns : List ℕ) where
+  column : (f : Row → ℕ) (l : List ℕ) → length l ≡ length keys
+      → ((i : ℕ) → f (row (getD keys i 0) (getD tags i 0) (getD identities i 0) (getD columns i 0)) ≡ getD l i 0)
+      → each f (rowsOf keys tags identities columns) ≡ l
   column f l e same =
-      ext-getD 0 (each f (rowsOf owners oids tags identities columns)) l
-      (each-length f (rowsOf owners oids tags identities columns) ∙ rows-length owners oids tags identities columns ∙ sym e)
-      (λ i h. let b : i < length owners = omega (arith, h, each-length f (rowsOf owners oids tags identities columns), rows-length owners oids tags identities columns) in
-      each-at f freeRow (rowsOf owners oids tags identities columns) i (omega (arith, b, rows-length owners oids tags identities columns))
-      ∙ ap f (rows-at owners oids tags identities columns i b) ∙ same i)
+      ext-getD 0 (each f (rowsOf keys tags identities columns)) l
+      (each-length f (rowsOf keys tags identities columns) ∙ rows-length keys tags identities columns ∙ sym e)
+      (λ i h. let b : i < length keys = omega (arith, h, each-length f (rowsOf keys tags identities columns), rows-length keys tags identities columns) in
+      each-at f noRow (rowsOf keys tags identities columns) i (omega (arith, b, rows-length keys tags identities columns))
+      ∙ ap f (rows-at keys tags identities columns i b) ∙ same i)
 
-  module _ (s : Sized owners oids tags identities columns) where
-    pub owners-of : each (λ r. r .holder) (rowsOf owners oids tags identities columns) ≡ owners
-    owners-of = column (λ r. r .holder) owners refl (λ i. refl)
+  module _ (s : Sized keys tags identities columns) where
+    pub keys-of : each (λ r. r .key) (rowsOf keys tags identities columns) ≡ keys
+    keys-of = column (λ r. r .key) keys refl (λ i. refl)
 
-    pub oids-of : each (λ r. r .oid) (rowsOf owners oids tags identities columns) ≡ oids
-    oids-of = column (λ r. r .oid) oids (s .oids-256 ∙ sym (s .owners-256)) (λ i. refl)
+    pub tags-of : each (λ r. r .tag) (rowsOf keys tags identities columns) ≡ tags
+    tags-of = column (λ r. r .tag) tags (s .tags-256 ∙ sym (s .keys-256)) (λ i. refl)
 
-    pub tags-of : each (λ r. r .tag) (rowsOf owners oids tags identities columns) ≡ tags
-    tags-of = column (λ r. r .tag) tags (s .tags-256 ∙ sym (s .owners-256)) (λ i. refl)
+    pub identities-of : each (λ r. r .identity) (rowsOf keys tags identities columns) ≡ identities
+    identities-of = column (λ r. r .identity) identities (s .identities-256 ∙ sym (s .keys-256)) (λ i. refl)
 
-    pub identities-of : each (λ r. r .identity) (rowsOf owners oids tags identities columns) ≡ identities
-    identities-of = column (λ r. r .identity) identities (s .identities-256 ∙ sym (s .owners-256)) (λ i. refl)
+    pub columns-of : each (λ r. r .columns) (rowsOf keys tags identities columns) ≡ columns
+    columns-of = column (λ r. r .columns) columns (s .columns-256 ∙ sym (s .keys-256)) (λ i. refl)
 
-    pub columns-of : each (λ r. r .columns) (rowsOf owners oids tags identities columns) ≡ columns
-    columns-of = column (λ r. r .columns) columns (s .columns-256 ∙ sym (s .owners-256)) (λ i. refl)
-
--- a test of the key sees only the keys
-pub index-key : (t o : ℕ) (owners oids tags identities columns : List ℕ) → indexOf (keyIs t o) (rowsOf owners oids tags identities columns) ≡ indexOf (keyIs t o) (keysOf owners oids)
-index-key t o [] oids tags identities columns = refl
-index-key t o (a ∷ owners) oids tags identities columns = rw (index-key t o owners (rest oids) (rest tags) (rest identities) (rest columns))
-
-pub any-key : (t o : ℕ) (owners oids tags identities columns : List ℕ) → any (keyIs t o) (rowsOf owners oids tags identities columns) ≡ any (keyIs t o) (keysOf owners oids)
-any-key t o [] oids tags identities columns = refl
-any-key t o (a ∷ owners) oids tags identities columns = rw (any-key t o owners (rest oids) (rest tags) (rest identities) (rest columns))
-
--- a free row is an OID of 0
-pub index-free : (owners oids tags identities columns : List ℕ) → length oids ≡ length owners → indexOf isFree (rowsOf owners oids tags identities columns) ≡ indexOf (is 0) oids
-index-free [] [] tags identities columns e = refl
-index-free [] (b ∷ oids) tags identities columns e = absurd (omega (arith, e))
-index-free (a ∷ owners) [] tags identities columns e = absurd (omega (arith, e))
-index-free (a ∷ owners) (b ∷ oids) tags identities columns e = rw (index-free owners oids (rest tags) (rest identities) (rest columns) (omega (arith, e)))
-
-pub any-free : (owners oids tags identities columns : List ℕ) → length oids ≡ length owners → any isFree (rowsOf owners oids tags identities columns) ≡ any (is 0) oids
-any-free [] [] tags identities columns e = refl
-any-free [] (b ∷ oids) tags identities columns e = absurd (omega (arith, e))
-any-free (a ∷ owners) [] tags identities columns e = absurd (omega (arith, e))
-any-free (a ∷ owners) (b ∷ oids) tags identities columns e = rw (any-free owners oids (rest tags) (rest identities) (rest columns) (omega (arith, e)))
-
--- owners that become common
-pub rows-shared : (t : ℕ) (owners oids tags identities columns : List ℕ) → rowsOf (change (sharedOwner t) owners) oids tags identities columns ≡ change (shared t) (rowsOf owners oids tags identities columns)
-rows-shared t [] oids tags identities columns = refl
-rows-shared t (a ∷ owners) oids tags identities columns =
-    rw (rows-shared t owners (rest oids) (rest tags) (rest identities) (rest columns)) (ap (λ (r : Row). r ∷ change (shared t) (rowsOf owners (rest oids) (rest tags) (rest identities) (rest columns))) (go (eqb a t)))
-  where
-    go : (v : Bool) → row (cond v 0 a) (first oids) (first tags) (first identities) (first columns) ≡ cond v (row 0 (first oids) (first tags) (first identities) (first columns)) (row a (first oids) (first tags) (first identities) (first columns))
-    go true = refl
-    go false = refl
-
--- an index of the arrays is one of the rows
-pub rows-in : (owners oids tags identities columns : List ℕ) (i : ℕ) → length owners ≡ 256 → i < 256 → i < length (rowsOf owners oids tags identities columns)
-rows-in owners oids tags identities columns i e h = omega (arith, e, h, rows-length owners oids tags identities columns)
+    pub rows-256 : length (rowsOf keys tags identities columns) ≡ 256
+    rows-256 = rows-length keys tags identities columns ∙ s .keys-256

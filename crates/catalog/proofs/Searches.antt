@@ -1,14 +1,12 @@
 -- A search by index: the loop's laws, and what the first index says of `any`, `firstOf` and `replaceFirst`.
-use mathlib.Core.Path.{_≡_, refl, sym, ap}
+use mathlib.Core.Path.{_≡_, refl, ap}
 use mathlib.Core.List.{List, [], _∷_}
 use mathlib.Core.Bool.{Bool, true, false, cond, _||_}
 use Prim.Native.Nat.{ℕ, zero, suc, _+_, _≤_, _<_}
 use native.Mathlib.Numerals.{add-one}
 use native.Mathlib.Omega.{arith}
-use lib.Dec.{ltb}
 use lib.ListN.{length, drop, getD, set, drop-of-length-le}
 use lib.Seq.{drop-cons}
-use borrow.Author.Tests.{ltb-true, ltb-false}
 use Rattle.catalog.specs.Lists.{any, replaceFirst, firstOf, indexOf}
 
 module _ {A : Type 0} (p : A → Bool) (d : A) where
@@ -79,12 +77,3 @@ module _ {A : Type 0} (p : A → Bool) (b d : A) where
   any-set [] i e = refl
   any-set (a ∷ l) zero e = rw e
   any-set (a ∷ l) (suc i) e = rw (any-set l i e)
-
--- whether one passes, by the index
-module _ {A : Type 0} (p : A → Bool) where
-  pub any-below : (l : List A) (i : ℕ) → i ≡ indexOf p l → length l ≡ 256 → ltb i 256 ≡ any p l
-  any-below l i e n = go (ltb i 256) refl
-    where
-      go : (v : Bool) → ltb i 256 ≡ v → v ≡ any p l
-      go true w = sym (any-at p l (omega (arith, e, n, ltb-true i 256 w)))
-      go false w = sym (any-not p l (omega (arith, e, n, ltb-false i 256 w)))

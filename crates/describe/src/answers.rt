@@ -50,18 +50,19 @@ fn put_announcement(
 
 // The announcement of a relation that a change at this place sees: the open block's own before the common one.
 fn seen(session: Session, oid: u32) -> Lookup {
-    let owners = session.owners;
-    let oids = session.oids;
+    let rows = session.rows;
+    let keys = session.keys;
     let tags = session.tags;
     let identities = session.identities;
     let columns = session.columns;
     if session.phase == Session::BLOCK {
-        let own = catalog::find_announcement(
-            &owners,
-            &oids,
+        let own = catalog::announcements::find_announcement(
+            &keys,
             &tags,
             &identities,
             &columns,
+            0,
+            rows,
             session.current_xid,
             oid,
         );
@@ -73,7 +74,7 @@ fn seen(session: Session, oid: u32) -> Lookup {
             return own;
         }
     }
-    catalog::find_announcement(&owners, &oids, &tags, &identities, &columns, 0, oid)
+    catalog::announcements::find_announcement(&keys, &tags, &identities, &columns, 0, rows, 0, oid)
 }
 
 fn is_seen(session: Session, oid: u32) -> bool {

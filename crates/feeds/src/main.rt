@@ -80,8 +80,8 @@ fn give_all(version: u32, trace: &[u8]) -> Counts {
     let mut changed = fresh.changed;
     let mut stream_xids = fresh.stream_xids;
     let mut stream_changed = fresh.stream_changed;
-    let mut owners = fresh.owners;
-    let mut oids = fresh.oids;
+    let mut rows = fresh.rows;
+    let mut keys = fresh.keys;
     let mut tags = fresh.tags;
     let mut identities = fresh.identities;
     let mut columns = fresh.columns;
@@ -103,8 +103,8 @@ fn give_all(version: u32, trace: &[u8]) -> Counts {
             &mut changed,
             &mut stream_xids,
             &mut stream_changed,
-            &mut owners,
-            &mut oids,
+            &mut rows,
+            &mut keys,
             &mut tags,
             &mut identities,
             &mut columns,

@@ -1,4 +1,4 @@
--- A message that was read is well formed: no xid and no OID that a rule names is 0. Assumes nothing.
+-- A message that was read is well formed: no xid that a rule names is 0, and each OID is a number of 32 bits. Assumes nothing.
 use Prim.Native.Nat.{ℕ, zero, suc, _+_, _≤_}
 use mathlib.Core.List.{List, [], _∷_}
 use mathlib.Core.Bool.{Bool, true, false, cond, _&&_}
@@ -19,43 +19,50 @@ use Rattle.message.specs.Layout.{Part, one, blockXid, groups, tuple, optionalTu
 use Rattle.message.specs.Kinds.{Kind, begin, commit, origin, relation, type, insert, update, delete, truncate, message, streamStart, streamStop, streamCommit, streamAbort, layout, id, identity, columns, new, keyOrOld, lsn, time, flags, xid}
 use Rattle.message.specs.Messages.{messageOf, readMessage}
 use Rattle.message.proofs.Accepted.{reached, accepted}
+use Rattle.catalog.specs.Table.{Small}
 use Rattle.columns.proofs.Stays.{field-stays, group-stays, groups-stay, tuple-stays}
 use Rattle.session.specs.Events.{Event, Begin, Commit, Origin, Relation, Change, Truncate, Neutral, StreamStart, StreamStop, StreamCommit, StreamAbort, oidsAt, eventOf}
 
 abbrev pub NonZero : ℕ → Type 0
 NonZero x = x ≡ 0 → ⊥
 
-abbrev pub AllNonZero : List ℕ → Type 0
-AllNonZero [] = Unit {0}
-AllNonZero (o ∷ os) = NonZero o × AllNonZero os
+-- an OID: not 0, of 32 bits
+abbrev pub Id : ℕ → Type 0
+Id o = NonZero o × Small o
+
+abbrev pub AllIds : List ℕ → Type 0
+AllIds [] = Unit {0}
+AllIds (o ∷ os) = Id o × AllIds os
 
 abbrev pub Formed : Event → Type 0
 Formed (Begin l x) = NonZero x
 Formed (Commit l) = Unit {0}
 Formed Origin = Unit {0}
-Formed (Relation o i c) = NonZero o
-Formed (Change o ts) = NonZero o
-Formed (Truncate os) = AllNonZero os
+Formed (Relation o i c) = Id o
+Formed (Change o ts) = Id o
+Formed (Truncate os) = AllIds os
 Formed Neutral = Unit {0}
 Formed (StreamStart x first) = NonZero x
 Formed StreamStop = Unit {0}
 Formed (StreamCommit x) = NonZero x
 Formed (StreamAbort x sub) = NonZero x
 
--- a number that was read is at least its field's lowest
-number-least : (w low high n : ℕ) (xs : List ℕ) (c : Cursor) {e : ℕ} → numberField w low high n xs c .next ≡ At e → low ≤ numberField w low high n xs c .value
+-- a number that was read is one that its field allows
+number-within : (w low high n : ℕ) (xs : List ℕ) (c : Cursor) {e : ℕ} → numberField w low high n xs c .next ≡ At e
+    → (low ≤ numberField w low high n xs c .value) × (numberField w low high n xs c .value ≤ high)
 unfolding numberField
-number-least w low high n xs (Refused m a) q = let z : _≡_ {A = ℕ} 0 1 = cc in absurd (omega arith)
-number-least w low high n xs (At at) {e} q = word (wordAt w xs at) q
+number-within w low high n xs (Refused m a) q = let z : _≡_ {A = ℕ} 0 1 = cc in absurd (omega arith)
+number-within w low high n xs (At at) {e} q = word (wordAt w xs at) q
   where
-    test : (a b : Bool) (v : ℕ) → leb low v ≡ a → cond (a && b) (record { value = v; next = At (at + w) }) (noNumber (Refused n at)) .next ≡ At e → low ≤ cond (a && b) (record { value = v; next = At (at + w) }) (noNumber (Refused n at)) .value
-    test true true v k q = leb-true low v k
-    test true false v k q = let z : _≡_ {A = ℕ} 0 1 = cc in absurd (omega arith)
-    test false b v k q = let z : _≡_ {A = ℕ} 0 1 = cc in absurd (omega arith)
+    test : (a b : Bool) (v : ℕ) → leb low v ≡ a → leb v high ≡ b → cond (a && b) (record { value = v; next = At (at + w) }) (noNumber (Refused n at)) .next ≡ At e
+        → (low ≤ cond (a && b) (record { value = v; next = At (at + w) }) (noNumber (Refused n at)) .value) × (cond (a && b) (record { value = v; next = At (at + w) }) (noNumber (Refused n at)) .value ≤ high)
+    test true true v k m q = (leb-true low v k, leb-true v high m)
+    test true false v k m q = let z : _≡_ {A = ℕ} 0 1 = cc in absurd (omega arith)
+    test false b v k m q = let z : _≡_ {A = ℕ} 0 1 = cc in absurd (omega arith)
 
-    word : (r : Word) → judged w low high n at r .next ≡ At e → low ≤ judged w low high n at r .value
+    word : (r : Word) → judged w low high n at r .next ≡ At e → (low ≤ judged w low high n at r .value) × (judged w low high n at r .value ≤ high)
     word Short q = let z : _≡_ {A = ℕ} 0 1 = cc in absurd (omega arith)
-    word (Value v) q = test (leb low v) (leb v high) v refl q
+    word (Value v) q = test (leb low v) (leb v high) v refl refl q
 
 module _ (b : Bool) (xs : List ℕ) where
   -- a refusal passes through every part of a layout
@@ -75,41 +82,42 @@ module _ (b : Bool) (xs : List ℕ) where
   fields-stay n o [] = refl
   fields-stay n o (p ∷ ps) = ap (λ (c : Cursor). readFields b ps xs c .next) (part-stays n o p) ∙ fields-stay n o ps
 
-  -- an id that reading got past is not 0
-  id-then : (rest : List Part) (c : Cursor) (e : ℕ) → readFields b rest xs (numberField 4 1 0xFFFF_FFFF 4 xs c .next) .next ≡ At e → NonZero (numberField 4 1 0xFFFF_FFFF 4 xs c .value)
-  id-then rest c e q z =
+  -- an id that reading got past
+  id-then : (rest : List Part) (c : Cursor) (e : ℕ) → readFields b rest xs (numberField 4 1 0xFFFF_FFFF 4 xs c .next) .next ≡ At e
+      → NonZero (numberField 4 1 0xFFFF_FFFF 4 xs c .value) × Id (numberField 4 1 0xFFFF_FFFF 4 xs c .value)
+  id-then rest c e q =
       let r = reached (λ (d : Cursor). readFields b rest xs d .next) (λ n o. fields-stay n o rest) (numberField 4 1 0xFFFF_FFFF 4 xs c .next) q in
-      let k = number-least 4 1 0xFFFF_FFFF 4 xs c (r .1) in
-      omega arith
+      let k = number-within 4 1 0xFFFF_FFFF 4 xs c (r .1) in
+      ((λ z. omega (arith, k .0, z)), ((λ z. omega (arith, k .0, z)), omega (arith, k .1)))
 
-  oids-then : (n : ℕ) (c : Cursor) (e : ℕ) → groupsEnd (id ∷ []) xs n c ≡ At e → AllNonZero (oidsAt n xs c)
+  oids-then : (n : ℕ) (c : Cursor) (e : ℕ) → groupsEnd (id ∷ []) xs n c ≡ At e → AllIds (oidsAt n xs c)
   unfolding groupsEnd
   oids-then zero c e q = tt
   oids-then (suc n) c e q =
       let d = numberField 4 1 0xFFFF_FFFF 4 xs c .next in
       let r = reached (groupsEnd (id ∷ []) xs n) (λ k o. groups-stay xs k o (id ∷ []) n) d q in
-      (id-then [] c (r .0) (r .1), oids-then n d e q)
+      (id-then [] c (r .0) (r .1) .1, oids-then n d e q)
 
-  relations-then : (n : ℕ) (c : Cursor) (e : ℕ) → groupsEnd (id ∷ []) xs n c ≡ At e → AllNonZero (oidsAt n xs (At (positionOf c)))
+  relations-then : (n : ℕ) (c : Cursor) (e : ℕ) → groupsEnd (id ∷ []) xs n c ≡ At e → AllIds (oidsAt n xs (At (positionOf c)))
   relations-then n c e q =
       let r = reached (groupsEnd (id ∷ []) xs n) (λ k o. groups-stay xs k o (id ∷ []) n) c q in
       rw (r .1) (oids-then n (At (r .0)) e (rw (r .1) at q))
 
   kind-formed : (k : Kind) (e : ℕ) → readFields b (layout k) xs (At 1) .next ≡ At e → Formed (eventOf (messageOf k (readFields b (layout k) xs (At 1) .parts)) xs)
-  kind-formed begin e q = id-then [] _ e q
+  kind-formed begin e q = id-then [] _ e q .0
   kind-formed commit e q = tt
   kind-formed origin e q = tt
-  kind-formed relation e q = id-then (one text ∷ one text ∷ identity ∷ columns ∷ []) _ e q
+  kind-formed relation e q = id-then (one text ∷ one text ∷ identity ∷ columns ∷ []) _ e q .1
   kind-formed type e q = tt
-  kind-formed insert e q = id-then (new ∷ tuple ∷ []) _ e q
-  kind-formed update e q = id-then (optionalTuple keyOrOld ∷ new ∷ tuple ∷ []) _ e q
-  kind-formed delete e q = id-then (one (letter keyOrOld) ∷ tuple ∷ []) _ e q
+  kind-formed insert e q = id-then (new ∷ tuple ∷ []) _ e q .1
+  kind-formed update e q = id-then (optionalTuple keyOrOld ∷ new ∷ tuple ∷ []) _ e q .1
+  kind-formed delete e q = id-then (one (letter keyOrOld) ∷ tuple ∷ []) _ e q .1
   kind-formed truncate e q = relations-then _ _ e q
   kind-formed message e q = tt
-  kind-formed streamStart e q = id-then (flags 1 ∷ []) _ e q
+  kind-formed streamStart e q = id-then (flags 1 ∷ []) _ e q .0
   kind-formed streamStop e q = tt
-  kind-formed streamCommit e q = id-then (flags 0 ∷ lsn ∷ lsn ∷ time ∷ []) _ e q
-  kind-formed streamAbort e q = id-then (xid ∷ []) _ e q
+  kind-formed streamCommit e q = id-then (flags 0 ∷ lsn ∷ lsn ∷ time ∷ []) _ e q .0
+  kind-formed streamAbort e q = id-then (xid ∷ []) _ e q .0
 
   pub read-formed : (v : Version) (m : Message) → readMessage v b xs ≡ read.Message m → Formed (eventOf m xs)
   read-formed v m q = let a = accepted v b xs m q in rw (a .message) (kind-formed (a .kind) _ (a .ends))

@@ -1,11 +1,17 @@
 pub mod Tests
 pub mod Formed
 pub mod Streams
+pub mod Lawful
 pub mod Rows
 pub mod Live
 pub mod Agreement
+pub mod Sorted
 pub mod Runs
 pub mod ListTheorem
+pub mod FirstFitLaws
+pub mod FirstFit
+pub mod SameAnswers
+pub mod AlwaysSorted
 pub mod Shapes
 pub mod Others
 pub mod Oids

@@ -3,6 +3,8 @@ use mathlib.Core.Path.{_≡_}
 use mathlib.Core.List.{List, []}
 use Rattle.session.specs.Rules.{Given, answers}
 use Rattle.session.specs.Machine.{Start, versionOf, startOf, run}
+use Rattle.session.specs.State.{sorted}
+use Rattle.session.proofs.Sorted.{sorted-lawful}
 use Rattle.session.proofs.Agreement.{fresh}
 use Rattle.session.proofs.Runs.{agree-run}
 
@@ -13,4 +15,4 @@ use Rattle.session.proofs.Runs.{agree-run}
 -- Nothing is assumed of the list, of its length or of the version.
 pub session-answers : (start : Start) (l : List Given) → run (startOf start) l ≡ answers (versionOf start) [] l
 unfolding startOf
-session-answers start l = agree-run l (startOf start) [] fresh
+session-answers start l = agree-run l (startOf start) [] (fresh sorted sorted-lawful)

@@ -2,24 +2,23 @@
 use mathlib.Core.Path.{_≡_, refl, sym, _∙_, ap, ap₂}
 use mathlib.Core.List.{List, [], _∷_}
 use mathlib.Core.Bool.{Bool, true, false, cond, not, _||_, _&&_, true≢false, false≢true}
-use Prim.Native.Nat.{ℕ, suc, _+_}
-use native.Mathlib.Omega.{arith}
+use Prim.Native.Nat.{ℕ}
 use lib.ListN.{length}
 use lib.Dec.{eqb, leb}
-use borrow.Author.Tests.{eq-eqb, eqb-true, eqb-false, le-leb, lt-leb}
+use borrow.Author.Tests.{eq-eqb, eqb-true}
 use Rattle.catalog.specs.declared.Lookup.{Lookup}
 use Rattle.catalog.specs.declared.Lookup.the-variants.{Missing, Found}
 use Rattle.catalog.specs.Lists.{any, tally, keep, distinct}
-use Rattle.catalog.specs.Table.{Row, keyIs, isFree}
-use Rattle.catalog.proofs.Counting.{bit, any-tally, none-tally, tally-bit, keep-length, tally-keep, tally-distinct, length-by-counts}
+use Rattle.catalog.proofs.Counting.{bit, tally-keep, tally-distinct, length-by-counts}
 use Rattle.session.specs.declared.Place.{Place}
 use Rattle.session.specs.Events.{Begin, Commit, Origin, Relation, Change, Truncate, Neutral, StreamStart, StreamStop, StreamCommit, StreamAbort}
 use Rattle.session.specs.Rules.{entry, History, place, inBlock, inTransaction, holderAt, own, common, held, isFound, orElse, Pair, pair, samePair, pairs, isLive, liveCount}
-use Rattle.session.proofs.Formed.{NonZero}
 use Rattle.session.proofs.Tests.{and-parts}
-use Rattle.session.proofs.Rows.{Agrees, same-any}
+use Rattle.session.specs.State.{Layout}
+use Rattle.session.proofs.Lawful.{Lawful}
+use Rattle.session.proofs.Rows.{Agrees}
 
-same-eq : (k m : Pair) → samePair k m ≡ true → k ≡ m
+pub same-eq : (k m : Pair) → samePair k m ≡ true → k ≡ m
 same-eq (pair t o) (pair u r) e = go (eqb u t) (eqb r o) refl refl
   where
     go : (v w : Bool) → eqb u t ≡ v → eqb r o ≡ w → pair t o ≡ pair u r
@@ -27,7 +26,7 @@ same-eq (pair t o) (pair u r) e = go (eqb u t) (eqb r o) refl refl
     go true false a b = absurd (false≢true (rw (a, b) at e))
     go false w a b = absurd (false≢true (rw a at e))
 
-same-refl : (k : Pair) → samePair k k ≡ true
+pub same-refl : (k : Pair) → samePair k k ≡ true
 same-refl (pair t o) = rw (eq-eqb t t refl, eq-eqb o o refl)
 
 -- EVERY LIVE PAIR IS ONE THAT AN R MADE
@@ -119,64 +118,24 @@ live-pairs h t o e = go (eqb t 0) refl
 
 -- THE ROOM
 
--- the pairs of the rows
-abbrev rowPairs : List Row → List Pair
-rowPairs [] = []
-rowPairs (r ∷ l) = pair (r .holder) (r .oid) ∷ rowPairs l
-
-abbrev isUsed : Pair → Bool
-isUsed (pair t o) = not (eqb o 0)
-
-rowPairs-length : (l : List Row) → length (rowPairs l) ≡ length l
-rowPairs-length [] = refl
-rowPairs-length (r ∷ l) = ap suc (rowPairs-length l)
-
-rowPairs-tally : (t o : ℕ) (l : List Row) → tally (samePair (pair t o)) (rowPairs l) ≡ tally (keyIs t o) l
-rowPairs-tally t o [] = refl
-rowPairs-tally t o (r ∷ l) = rw (rowPairs-tally t o l)
-
-rowPairs-free : (l : List Row) → tally (λ k. not (isUsed k)) (rowPairs l) ≡ tally isFree l
-rowPairs-free [] = refl
-rowPairs-free (r ∷ l) = go (eqb (r .oid) 0) (rowPairs-free l)
+live-rows : (L : Layout) (w : Lawful L) (l : L .Rows) (h : History) → Agrees L w l h → liveCount h ≡ length (w .pairs l)
+live-rows L w l h a = length-by-counts samePair same-eq same-refl (keep (isLive h) (distinct samePair (pairs h))) (w .pairs l) same
   where
-    go : (v : Bool) → tally (λ k. not (isUsed k)) (rowPairs l) ≡ tally isFree l
-        → cond (not (not v)) 1 0 + tally (λ k. not (isUsed k)) (rowPairs l) ≡ cond v 1 0 + tally isFree l
-    go true r = rw r
-    go false r = rw r
-
-free-rows : (l : List Row) (h : History) → Agrees l h → liveCount h + tally isFree l ≡ 256
-free-rows l h a =
-    let n = length-by-counts samePair same-eq same-refl (keep (isLive h) (distinct samePair (pairs h))) (keep isUsed (rowPairs l)) same in
-    let k = keep-length isUsed (rowPairs l) in
-    let e = rowPairs-free l in
-    let m = rowPairs-length l in
-    let r = a .table .room in
-    omega arith
-  where
-    once : (t o : ℕ) → NonZero o → tally (keyIs t o) l ≡ bit (isFound (held h t o))
-    once t o z = tally-bit (keyIs t o) l (a .table .once t o z) ∙ ap bit (same-any l h a t o z)
-
-    same : (x : Pair) → tally (samePair x) (keep (isLive h) (distinct samePair (pairs h))) ≡ tally (samePair x) (keep isUsed (rowPairs l))
+    same : (x : Pair) → tally (samePair x) (keep (isLive h) (distinct samePair (pairs h))) ≡ tally (samePair x) (w .pairs l)
     same (pair t o) =
         rw (
           tally-keep samePair same-eq same-refl (isLive h) (pair t o) (distinct samePair (pairs h)),
-          tally-keep samePair same-eq same-refl isUsed (pair t o) (rowPairs l),
           tally-distinct samePair same-eq same-refl (pair t o) (pairs h),
-          rowPairs-tally t o l,
         )
-        (go (isFound (held h t o)) (eqb o 0) refl refl)
+        (go (isFound (held h t o)) (w .isOid o) refl refl)
       where
-        go : (u v : Bool) → isFound (held h t o) ≡ u → eqb o 0 ≡ v
-            → cond (isFound (held h t o)) (bit (any (samePair (pair t o)) (pairs h))) 0 ≡ cond (not (eqb o 0)) (tally (keyIs t o) l) 0
-        go true true eu ev = absurd (true≢false (sym eu ∙ ap (λ (n : ℕ). isFound (held h t n)) (eqb-true o 0 ev) ∙ ap isFound (a .nobody t)))
-        go true false eu ev = rw (ev, once t o (eqb-false o 0 ev), eu, live-pairs h t o eu)
-        go false true eu ev = rw (eu, ev)
-        go false false eu ev = rw (ev, once t o (eqb-false o 0 ev), eu)
+        go : (u v : Bool) → isFound (held h t o) ≡ u → w .isOid o ≡ v
+            → cond (isFound (held h t o)) (bit (any (samePair (pair t o)) (pairs h))) 0 ≡ tally (samePair (pair t o)) (w .pairs l)
+        go true true eu ev = rw (w .pairs-once l (a .good) t o ev, a .same t o ev, eu, live-pairs h t o eu)
+        go true false eu ev = absurd (true≢false (sym eu ∙ ap isFound (a .nobody t o ev)))
+        go false true eu ev = rw (w .pairs-once l (a .good) t o ev, a .same t o ev, eu)
+        go false false eu ev = rw (eu, w .pairs-none l (a .good) t o ev)
 
 -- whether there is no room for another
-pub same-room : (l : List Row) (h : History) → Agrees l h → not (any isFree l) ≡ leb 256 (liveCount h)
-same-room l h a = go (any isFree l) refl (free-rows l h a)
-  where
-    go : (v : Bool) → any isFree l ≡ v → liveCount h + tally isFree l ≡ 256 → not v ≡ leb 256 (liveCount h)
-    go true e f = let k = any-tally isFree l e in sym (lt-leb 256 (liveCount h) (omega arith))
-    go false e f = let k = none-tally isFree l e in sym (le-leb 256 (liveCount h) (omega arith))
+pub same-room : (L : Layout) (w : Lawful L) (l : L .Rows) (h : History) → Agrees L w l h → L .full l ≡ leb 256 (liveCount h)
+same-room L w l h a = w .pairs-full l (a .good) ∙ ap (leb 256) (sym (live-rows L w l h a))

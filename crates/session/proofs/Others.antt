@@ -1,5 +1,6 @@
 -- The acts, and the messages, that fall under the last arm of a match. Assumes nothing.
-use Prim.Native.Nat.{ℕ}
+use Prim.Native.Nat.{ℕ, _<_, _%_}
+use native.Mathlib.Omega.{arith}
 use mathlib.Core.List.{List, [], _∷_}
 use mathlib.Core.Bool.{Bool}
 use mathlib.Core.Path.{_≡_, refl}
@@ -12,7 +13,7 @@ use Rattle.catalog.specs.Table.{Row, Stream}
 use Rattle.session.specs.declared.Place.{Place}
 use Rattle.session.specs.declared.Act.{Act}
 use Rattle.session.specs.declared.Act.the-variants as act
-use Rattle.session.specs.Events.{Neutral, eventOf}
+use Rattle.session.specs.Events.{Relation, Neutral, eventOf}
 use Rattle.session.specs.Rules.{placeAfter}
 use Rattle.session.specs.State.{flagAfter, streamsAfter, rowsAfter}
 use Rattle.session.specs.Acts.{eventIn}
@@ -105,3 +106,10 @@ rows-stay xs g p r (act.StreamStart x first) k = refl
 rows-stay xs g p r act.StreamStop k = refl
 rows-stay xs g p r (act.StreamCommit x) k = absurd (miss unannounced 9 tt k)
 rows-stay xs g p r (act.StreamAbort x sub) k = absurd (miss unannounced 10 tt k)
+
+-- an announcement's identity and column count are what they were as smaller numbers
+pub words : (o i c w v : ℕ) → (w ≡ i) × (w < 256) → (v ≡ c) × (v < 65536) → Relation o (w % 256) (v % 65536) ≡ Relation o i c
+words o i c w v p q =
+    let a : w % 256 ≡ i = omega (arith, p .0, p .1) in
+    let b : v % 65536 ≡ c = omega (arith, q .0, q .1) in
+    rw (a, b)

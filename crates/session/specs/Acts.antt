@@ -1,5 +1,5 @@
 -- What the session's code hands on: an event, with a Change's tuples as numbers and a Truncate's OIDs by where they start; a rule's refusal as its number.
-use Prim.Native.Nat.{ℕ}
+use Prim.Native.Nat.{ℕ, _%_}
 use mathlib.Core.List.{List, [], _∷_}
 use mathlib.Core.Bool.{cond}
 use lib.Dec.{eqb}
@@ -19,11 +19,11 @@ abbrev pub eventIn : Act → List ℕ → Event
 eventIn (act.Begin lsn x) xs = Begin lsn x
 eventIn (act.Commit lsn) xs = Commit lsn
 eventIn act.Origin xs = Origin
-eventIn (act.Relation o i c) xs = Relation o i c
+eventIn (act.Relation o i c) xs = Relation o (i % 256) (c % 65536)
 eventIn (act.Change o old oldCount letter count) xs = Change o (tuplesOf old oldCount letter count)
 eventIn (act.Truncate start count) xs = Truncate (oidsAt count xs (At start))
 eventIn act.Neutral xs = Neutral
-eventIn (act.StreamStart x first) xs = StreamStart x first
+eventIn (act.StreamStart x first) xs = StreamStart x (eqb first 1)
 eventIn act.StreamStop xs = StreamStop
 eventIn (act.StreamCommit x) xs = StreamCommit x
 eventIn (act.StreamAbort x sub) xs = StreamAbort x sub

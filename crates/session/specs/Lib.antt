@@ -4,3 +4,4 @@ pub mod State
 pub mod Machine
 pub mod Acts
 pub mod Listed
+pub mod FirstFit

@@ -3,13 +3,13 @@ use Prim.Native.Nat.{ℕ}
 use mathlib.Core.List.{List, [], _∷_}
 use mathlib.Core.Bool.{cond, not}
 use lib.Dec.{eqb}
-use lib.ListN.{replicate}
+use lib.ListN.{replicate, take, length}
 use Rattle.message.specs.declared.Version.{Version}
 use Rattle.message.specs.declared.Read.{Read}
 use Rattle.message.specs.declared.Read.the-variants as read
 use Rattle.message.specs.Messages.{readMessage}
 use Rattle.catalog.specs.Lists.{each}
-use Rattle.catalog.specs.Table.{rowsOf, streamsOf}
+use Rattle.catalog.specs.Table.{Row, rowsOf, streamsOf, over}
 use Rattle.session.specs.declared.Place.{Place}
 use Rattle.session.specs.declared.Place.the-variants.{Idle, Transaction, Block}
 use Rattle.session.specs.declared.Answer.{Answer}
@@ -23,8 +23,8 @@ use Rattle.session.specs.State.{State, answerIn, stateAfter}
 -- THE RECORD
 
 -- its numbers, one after the other
-abbrev pub made : ℕ → ℕ → ℕ → ℕ → ℕ → List ℕ → List ℕ → List ℕ → List ℕ → List ℕ → List ℕ → List ℕ → Session
-made version phase current lsn changed xids marks owners oids tags identities columns = record {
+abbrev pub made : ℕ → ℕ → ℕ → ℕ → ℕ → List ℕ → List ℕ → ℕ → List ℕ → List ℕ → List ℕ → List ℕ → Session
+made version phase current lsn changed xids marks rows keys tags identities columns = record {
   version = version;
   phase = phase;
   «current_xid» = current;
@@ -32,8 +32,8 @@ made version phase current lsn changed xids marks owners oids tags identities co
   changed = changed;
   «stream_xids» = xids;
   «stream_changed» = marks;
-  owners = owners;
-  oids = oids;
+  rows = rows;
+  keys = keys;
   tags = tags;
   identities = identities;
   columns = columns;
@@ -62,16 +62,20 @@ lsnOf Idle was = was
 lsnOf (Transaction lsn) was = lsn
 lsnOf (Block x) was = was
 
+-- every row that it has room for; the first `rows` are in use
+abbrev pub tableOf : Session → List Row
+tableOf s = rowsOf (s .keys) (s .tags) (s .identities) (s .columns)
+
 -- what the record says
 abbrev pub view : Session → State
 view s = record {
   place = placeOf (s .phase) (s .«current_xid») (s .«final_lsn»);
   changed = not (eqb (s .changed) 0);
   streams = streamsOf (s .«stream_xids») (s .«stream_changed»);
-  rows = rowsOf (s .owners) (s .oids) (s .tags) (s .identities) (s .columns);
+  rows = take (s .rows) (tableOf s);
 }
 
--- the record that says something new
+-- the record that says something new: behind the rows in use it is as it was
 abbrev pub written : Session → State → Session
 written s n =
     made
@@ -82,11 +86,11 @@ written s n =
     (cond (n .changed) 1 0)
     (each (λ r. r .xid) (n .streams))
     (each (λ r. r .changed) (n .streams))
-    (each (λ r. r .holder) (n .rows))
-    (each (λ r. r .oid) (n .rows))
-    (each (λ r. r .tag) (n .rows))
-    (each (λ r. r .identity) (n .rows))
-    (each (λ r. r .columns) (n .rows))
+    (length (n .rows))
+    (each (λ r. r .key) (over (n .rows) (tableOf s)))
+    (each (λ r. r .tag) (over (n .rows) (tableOf s)))
+    (each (λ r. r .identity) (over (n .rows) (tableOf s)))
+    (each (λ r. r .columns) (over (n .rows) (tableOf s)))
 
 -- A STEP
 
@@ -118,9 +122,14 @@ versionOf (named n) = record { number = n }
 -- idle, with nothing open and nothing announced
 unfoldable pub startOf : Start → Session
 startOf s =
-    made (versionOf s .number) 0 0 0 0 (replicate 16 0) (replicate 16 0) (replicate 256 0) (replicate 256 0) (replicate 256 0) (replicate 256 0) (replicate 256 0)
+    made (versionOf s .number) 0 0 0 0 (replicate 16 0) (replicate 16 0) 0 (replicate 256 0) (replicate 256 0) (replicate 256 0) (replicate 256 0)
 
 -- A LIST: each message goes to the session as the last one left it
 unfoldable pub run : Session → List Given → List Answer
 run s [] = []
 run s (given xs g ∷ l) = stepOf s xs g .answer ∷ run (stepOf s xs g .session) l
+
+-- and the record after the list
+unfoldable pub after : Session → List Given → Session
+after s [] = s
+after s (given xs g ∷ l) = after (stepOf s xs g .session) l

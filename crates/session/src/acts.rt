@@ -1,5 +1,6 @@
 // From a message that was read to what the session looks at in it.
 ghost use mathlib.Core.Path.{_≡_};
+ghost use Prim.Native.Nat.{_<_};
 ghost use Rattle.wire.specs.declared.Cursor.the-variants.{At};
 ghost use Rattle.wire.specs.Fields.{numberField};
 ghost use Rattle.session.specs.Events.{eventOf};
@@ -14,8 +15,21 @@ use wire::Refusal;
 
 const MOST_COLUMNS: u16 = 1600;
 
+// Smaller numbers as words.
+pub fn wide8(x: u8) -> u64
+    ensures { λ r. ⌜ (r ≡ x) × (r < 256) ⌝ }
+{
+    x as u64
+}
+
+pub fn wide16(x: u16) -> u64
+    ensures { λ r. ⌜ (r ≡ x) × (r < 65536) ⌝ }
+{
+    x as u64
+}
+
 // How many columns the tuple at `start` counts.
-pub fn count_at(bytes: &[u8], start: usize) -> u16
+pub fn count_at(bytes: &[u8], start: usize) -> u64
     ensures { λ r. ⌜ r ≡ numberField 2 0 1600 6 (now (bytes .entry)) (At start) .value ⌝ }
 {
     let Field16 { value, .. } = wire::number16(
@@ -25,10 +39,10 @@ pub fn count_at(bytes: &[u8], start: usize) -> u16
         MOST_COLUMNS,
         Refusal::RANGE,
     );
-    value
+    wide16(value)
 }
 
-pub fn change(oid: u32, old: u8, old_count: u16, letter: u8, count: u16) -> Act
+pub fn change(oid: u32, old: u64, old_count: u64, letter: u64, count: u64) -> Act
     ensures { λ r. ⌜ r ≡ Act.Change oid old «old_count» letter count ⌝ }
 {
     Act::Change {
@@ -76,19 +90,19 @@ pub fn act_of(m: Message, bytes: &[u8]) -> Act
         Message::Origin(_) => Act::Origin,
         Message::Relation(x) => Act::Relation {
             oid: x.relation,
-            identity: x.identity,
-            columns: x.count,
+            identity: wide8(x.identity),
+            columns: wide16(x.count),
         },
         Message::Insert(x) => change(x.relation, 0, 0, Act::NEW, count_at(bytes, x.tuple)),
         Message::Update(x) => update(x, bytes),
-        Message::Delete(x) => change(x.relation, 0, 0, x.image, count_at(bytes, x.tuple)),
+        Message::Delete(x) => change(x.relation, 0, 0, wide8(x.image), count_at(bytes, x.tuple)),
         Message::Truncate(x) => Act::Truncate {
             start: x.relations,
             count: x.count,
         },
         Message::StreamStart { xid, first } => Act::StreamStart {
             xid,
-            first: first == 1,
+            first: wide8(first),
         },
         Message::StreamStop => Act::StreamStop,
         Message::StreamCommit(x) => Act::StreamCommit { xid: x.xid },

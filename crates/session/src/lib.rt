@@ -1,10 +1,12 @@
 ghost use mathlib.Core.Path.{_≡_};
 ghost use mathlib.Core.List.{[]};
 ghost use lib.ListN.{getD};
+ghost use Prim.Native.Nat.{ℕ};
+ghost use Rattle.session.specs.Events.{Change};
 ghost use Rattle.session.specs.Rules.{answers};
 ghost use Rattle.session.specs.Machine.{made, stepped, eventStep, stepOf, startOf, named, unnamed};
 ghost use Rattle.session.specs.Listed.{between, messagesIn, lastOr};
-ghost use Rattle.session.specs.Acts.{eventIn};
+ghost use Rattle.session.specs.Acts.{eventIn, tuplesOf};
 use message::Read;
 use message::Version;
 
@@ -36,7 +38,8 @@ pub enum Answer {
 }
 
 // A session: numbers and arrays of numbers only, each content of which means something.
-// A stream's xid of 0 is a free place; an OID of 0 is a free row; an owner of 0 says that an announcement is common.
+// A stream's xid of 0 is a free place. The first `rows` announcements are in use, sorted by their keys, which hold the holder (0 is
+// common) and the OID.
 #[repr(C)]
 pub struct Session {
     pub version: u32,
@@ -46,8 +49,8 @@ pub struct Session {
     pub changed: u8,
     pub stream_xids: [u32; 16],
     pub stream_changed: [u8; 16],
-    pub owners: [u32; 256],
-    pub oids: [u32; 256],
+    pub rows: u16,
+    pub keys: [u64; 256],
     pub tags: [u64; 256],
     pub identities: [u8; 256],
     pub columns: [u16; 256],
@@ -68,7 +71,8 @@ pub struct Stepped {
     pub answer: Answer,
 }
 
-// What the session looks at in a message. A Change's old tuple has the letter 0 where there is none.
+// What the session looks at in a message, in whole words: smaller numbers would be packed and unpacked with the LSNs of other kinds.
+// A Change's old tuple has the letter 0 where there is none.
 enum Act {
     Begin {
         lsn: u64,
@@ -80,15 +84,15 @@ enum Act {
     Origin,
     Relation {
         oid: u32,
-        identity: u8,
-        columns: u16,
+        identity: u64,
+        columns: u64,
     },
     Change {
         oid: u32,
-        old: u8,
-        old_count: u16,
-        letter: u8,
-        count: u16,
+        old: u64,
+        old_count: u64,
+        letter: u64,
+        count: u64,
     },
     Truncate {
         start: usize,
@@ -97,7 +101,7 @@ enum Act {
     Neutral,
     StreamStart {
         xid: u32,
-        first: bool,
+        first: u64,
     },
     StreamStop,
     StreamCommit {
@@ -109,17 +113,17 @@ enum Act {
     },
 }
 
-// The letters of a change's tuples: the new row, the key, the whole old row.
+// The letters of a change's tuples: `N`, the new row; `K`, the key; `O`, the whole old row.
 impl Act {
-    const NEW: u8 = b'N';
+    const NEW: u64 = 0x4E;
 
-    const KEY: u8 = b'K';
+    const KEY: u64 = 0x4B;
 
-    const OLD: u8 = b'O';
+    const OLD: u64 = 0x4F;
 }
 
 // Gives the session what it looks at in a message: a judgement and, where that accepts, the stores.
-fn act_fields<'a>(
+fn judged_fields<'a>(
     version: u32,
     phase: &'a mut u8,
     current_xid: &'a mut u32,
@@ -127,8 +131,8 @@ fn act_fields<'a>(
     changed: &'a mut u8,
     stream_xids: &'a mut [u32; 16],
     stream_changed: &'a mut [u8; 16],
-    owners: &'a mut [u32; 256],
-    oids: &'a mut [u32; 256],
+    rows: &'a mut u16,
+    keys: &'a mut [u64; 256],
     tags: &'a mut [u64; 256],
     identities: &'a mut [u8; 256],
     columns: &'a mut [u16; 256],
@@ -136,7 +140,7 @@ fn act_fields<'a>(
     bytes: &[u8],
     tag: u64,
 ) -> Answer
-    ensures { λ r. ⌜ stepped (made version (now (phase .exit)) (now («current_xid» .exit)) (now («final_lsn» .exit)) (now (changed .exit)) (now («stream_xids» .exit)) (now («stream_changed» .exit)) (now (owners .exit)) (now (oids .exit)) (now (tags .exit)) (now (identities .exit)) (now (columns .exit))) r ≡ eventStep (made version (now (phase .entry)) (now («current_xid» .entry)) (now («final_lsn» .entry)) (now (changed .entry)) (now («stream_xids» .entry)) (now («stream_changed» .entry)) (now (owners .entry)) (now (oids .entry)) (now (tags .entry)) (now (identities .entry)) (now (columns .entry))) (eventIn a (now (bytes .entry))) tag ⌝ }
+    ensures { λ r. ⌜ stepped (made version (now (phase .exit)) (now («current_xid» .exit)) (now («final_lsn» .exit)) (now (changed .exit)) (now («stream_xids» .exit)) (now («stream_changed» .exit)) (now (rows .exit)) (now (keys .exit)) (now (tags .exit)) (now (identities .exit)) (now (columns .exit))) r ≡ eventStep (made version (now (phase .entry)) (now («current_xid» .entry)) (now («final_lsn» .entry)) (now (changed .entry)) (now («stream_xids» .entry)) (now («stream_changed» .entry)) (now (rows .entry)) (now (keys .entry)) (now (tags .entry)) (now (identities .entry)) (now (columns .entry))) (eventIn a (now (bytes .entry))) tag ⌝ }
 {
     let phase_now = *phase;
     let xid_now = *current_xid;
@@ -149,8 +153,8 @@ fn act_fields<'a>(
         flagged,
         stream_xids,
         stream_changed,
-        owners,
-        oids,
+        *rows,
+        keys,
         tags,
         identities,
         columns,
@@ -165,8 +169,8 @@ fn act_fields<'a>(
             changed,
             stream_xids,
             stream_changed,
-            owners,
-            oids,
+            rows,
+            keys,
             tags,
             identities,
             columns,
@@ -180,6 +184,133 @@ fn act_fields<'a>(
     answer
 }
 
+// The same for a change alone.
+fn change_fields<'a>(
+    version: u32,
+    phase: &'a mut u8,
+    current_xid: &'a mut u32,
+    final_lsn: &'a mut u64,
+    changed: &'a mut u8,
+    stream_xids: &'a [u32; 16],
+    stream_changed: &'a mut [u8; 16],
+    rows: &'a mut u16,
+    keys: &'a [u64; 256],
+    tags: &'a [u64; 256],
+    identities: &'a [u8; 256],
+    columns: &'a [u16; 256],
+    oid: u32,
+    old: u64,
+    old_count: u64,
+    letter: u64,
+    count: u64,
+) -> Answer
+    ensures { λ r. ⌜ ((tag : ℕ) → stepped (made version (now (phase .exit)) (now («current_xid» .exit)) (now («final_lsn» .exit)) (now (changed .exit)) (now («stream_xids» .entry)) (now («stream_changed» .exit)) (now (rows .exit)) (now (keys .entry)) (now (tags .entry)) (now (identities .entry)) (now (columns .entry))) r ≡ eventStep (made version (now (phase .entry)) (now («current_xid» .entry)) (now («final_lsn» .entry)) (now (changed .entry)) (now («stream_xids» .entry)) (now («stream_changed» .entry)) (now (rows .entry)) (now (keys .entry)) (now (tags .entry)) (now (identities .entry)) (now (columns .entry))) (Change oid (tuplesOf old «old_count» letter count)) tag) ⌝ }
+{
+    let phase_now = *phase;
+    let xid_now = *current_xid;
+    let lsn_now = *final_lsn;
+    let changed_now = *changed;
+    let place = rules::place_of(phase_now, xid_now, lsn_now);
+    let flagged = rules::flag(changed_now);
+    let answer = judging::judge_change(
+        place,
+        *rows,
+        keys,
+        tags,
+        identities,
+        columns,
+        oid,
+        old,
+        old_count,
+        letter,
+        count,
+    );
+    if rules::accepted(answer) {
+        storing::apply_change(
+            phase,
+            current_xid,
+            final_lsn,
+            changed,
+            stream_xids,
+            stream_changed,
+            rows,
+            keys,
+            tags,
+            identities,
+            columns,
+            place,
+            flagged,
+        );
+    }
+    answer
+}
+
+// The choice between the two: most messages are changes, and a path of their own is shorter.
+fn act_fields<'a>(
+    version: u32,
+    phase: &'a mut u8,
+    current_xid: &'a mut u32,
+    final_lsn: &'a mut u64,
+    changed: &'a mut u8,
+    stream_xids: &'a mut [u32; 16],
+    stream_changed: &'a mut [u8; 16],
+    rows: &'a mut u16,
+    keys: &'a mut [u64; 256],
+    tags: &'a mut [u64; 256],
+    identities: &'a mut [u8; 256],
+    columns: &'a mut [u16; 256],
+    a: Act,
+    bytes: &[u8],
+    tag: u64,
+) -> Answer
+    ensures { λ r. ⌜ stepped (made version (now (phase .exit)) (now («current_xid» .exit)) (now («final_lsn» .exit)) (now (changed .exit)) (now («stream_xids» .exit)) (now («stream_changed» .exit)) (now (rows .exit)) (now (keys .exit)) (now (tags .exit)) (now (identities .exit)) (now (columns .exit))) r ≡ eventStep (made version (now (phase .entry)) (now («current_xid» .entry)) (now («final_lsn» .entry)) (now (changed .entry)) (now («stream_xids» .entry)) (now («stream_changed» .entry)) (now (rows .entry)) (now (keys .entry)) (now (tags .entry)) (now (identities .entry)) (now (columns .entry))) (eventIn a (now (bytes .entry))) tag ⌝ }
+{
+    match a {
+        Act::Change {
+            oid,
+            old,
+            old_count,
+            letter,
+            count,
+        } => change_fields(
+            version,
+            phase,
+            current_xid,
+            final_lsn,
+            changed,
+            stream_xids,
+            stream_changed,
+            rows,
+            keys,
+            tags,
+            identities,
+            columns,
+            oid,
+            old,
+            old_count,
+            letter,
+            count,
+        ),
+        _ => judged_fields(
+            version,
+            phase,
+            current_xid,
+            final_lsn,
+            changed,
+            stream_xids,
+            stream_changed,
+            rows,
+            keys,
+            tags,
+            identities,
+            columns,
+            a,
+            bytes,
+            tag,
+        ),
+    }
+}
+
 // Gives a session one message, its bytes and a tag: every field is lent, and this is the one place where a step is coded.
 pub fn step_fields<'a>(
     version: &'a mut u32,
@@ -189,15 +320,15 @@ pub fn step_fields<'a>(
     changed: &'a mut u8,
     stream_xids: &'a mut [u32; 16],
     stream_changed: &'a mut [u8; 16],
-    owners: &'a mut [u32; 256],
-    oids: &'a mut [u32; 256],
+    rows: &'a mut u16,
+    keys: &'a mut [u64; 256],
     tags: &'a mut [u64; 256],
     identities: &'a mut [u8; 256],
     columns: &'a mut [u16; 256],
     bytes: &[u8],
     tag: u64,
 ) -> Answer
-    ensures { λ r. ⌜ stepped (made (now (version .exit)) (now (phase .exit)) (now («current_xid» .exit)) (now («final_lsn» .exit)) (now (changed .exit)) (now («stream_xids» .exit)) (now («stream_changed» .exit)) (now (owners .exit)) (now (oids .exit)) (now (tags .exit)) (now (identities .exit)) (now (columns .exit))) r ≡ stepOf (made (now (version .entry)) (now (phase .entry)) (now («current_xid» .entry)) (now («final_lsn» .entry)) (now (changed .entry)) (now («stream_xids» .entry)) (now («stream_changed» .entry)) (now (owners .entry)) (now (oids .entry)) (now (tags .entry)) (now (identities .entry)) (now (columns .entry))) (now (bytes .entry)) tag ⌝ }
+    ensures { λ r. ⌜ stepped (made (now (version .exit)) (now (phase .exit)) (now («current_xid» .exit)) (now («final_lsn» .exit)) (now (changed .exit)) (now («stream_xids» .exit)) (now («stream_changed» .exit)) (now (rows .exit)) (now (keys .exit)) (now (tags .exit)) (now (identities .exit)) (now (columns .exit))) r ≡ stepOf (made (now (version .entry)) (now (phase .entry)) (now («current_xid» .entry)) (now («final_lsn» .entry)) (now (changed .entry)) (now («stream_xids» .entry)) (now («stream_changed» .entry)) (now (rows .entry)) (now (keys .entry)) (now (tags .entry)) (now (identities .entry)) (now (columns .entry))) (now (bytes .entry)) tag ⌝ }
 {
     let number = *version;
     let phase_now = *phase;
@@ -220,8 +351,8 @@ pub fn step_fields<'a>(
                 changed,
                 stream_xids,
                 stream_changed,
-                owners,
-                oids,
+                rows,
+                keys,
                 tags,
                 identities,
                 columns,
@@ -245,8 +376,8 @@ pub fn start(version: u32) -> Session
         changed: 0,
         stream_xids: [0; 16],
         stream_changed: [0; 16],
-        owners: [0; 256],
-        oids: [0; 256],
+        rows: 0,
+        keys: [0; 256],
         tags: [0; 256],
         identities: [0; 256],
         columns: [0; 256],
@@ -271,8 +402,8 @@ pub fn step(session: Session, bytes: &[u8], tag: u64) -> Stepped
     let mut changed = session.changed;
     let mut stream_xids = session.stream_xids;
     let mut stream_changed = session.stream_changed;
-    let mut owners = session.owners;
-    let mut oids = session.oids;
+    let mut rows = session.rows;
+    let mut keys = session.keys;
     let mut tags = session.tags;
     let mut identities = session.identities;
     let mut columns = session.columns;
@@ -284,8 +415,8 @@ pub fn step(session: Session, bytes: &[u8], tag: u64) -> Stepped
         &mut changed,
         &mut stream_xids,
         &mut stream_changed,
-        &mut owners,
-        &mut oids,
+        &mut rows,
+        &mut keys,
         &mut tags,
         &mut identities,
         &mut columns,
@@ -301,8 +432,8 @@ pub fn step(session: Session, bytes: &[u8], tag: u64) -> Stepped
             changed,
             stream_xids,
             stream_changed,
-            owners,
-            oids,
+            rows,
+            keys,
             tags,
             identities,
             columns,
@@ -339,8 +470,8 @@ pub fn give_lent(session: &mut Session, bytes: &[u8], tag: u64) -> Answer
         &mut session.changed,
         &mut session.stream_xids,
         &mut session.stream_changed,
-        &mut session.owners,
-        &mut session.oids,
+        &mut session.rows,
+        &mut session.keys,
         &mut session.tags,
         &mut session.identities,
         &mut session.columns,

@@ -11,6 +11,7 @@ use crate::Act;
 use crate::Answer;
 use crate::Place;
 use crate::Session;
+use crate::acts;
 use catalog::Lookup;
 use message::Relation;
 use wire::Refusal;
@@ -185,10 +186,10 @@ pub fn rule_stream_end(place: Place, open: bool) -> u8
 }
 
 // Whether a tuple has the columns of an announcement, and a letter that its identity allows.
-pub fn tuple_fits(identity: u8, columns: u16, letter: u8, count: u16) -> bool
+pub fn tuple_fits(identity: u8, columns: u16, letter: u64, count: u64) -> bool
     ensures { λ r. ⌜ r ≡ fits identity columns (tuple letter count) ⌝ }
 {
-    if count != columns {
+    if count != acts::wide16(columns) {
         return false;
     }
     if letter == Act::OLD {
@@ -200,7 +201,14 @@ pub fn tuple_fits(identity: u8, columns: u16, letter: u8, count: u16) -> bool
     true
 }
 
-pub fn all_fit(identity: u8, columns: u16, old: u8, old_count: u16, letter: u8, count: u16) -> bool
+pub fn all_fit(
+    identity: u8,
+    columns: u16,
+    old: u64,
+    old_count: u64,
+    letter: u64,
+    count: u64,
+) -> bool
     ensures { λ r. ⌜ r ≡ allFit identity columns (tuplesOf old «old_count» letter count) ⌝ }
 {
     let fit = tuple_fits(identity, columns, letter, count);
@@ -215,7 +223,7 @@ pub fn all_fit(identity: u8, columns: u16, old: u8, old_count: u16, letter: u8, 
 }
 
 // The answer of a change that sees an announcement, or none.
-pub fn rule_shape(seen: Lookup, old: u8, old_count: u16, letter: u8, count: u16) -> Answer
+pub fn rule_shape(seen: Lookup, old: u64, old_count: u64, letter: u64, count: u64) -> Answer
     ensures { λ r. ⌜ r ≡ shaped seen (tuplesOf old «old_count» letter count) ⌝ }
 {
     match seen {

@@ -1,7 +1,10 @@
 // What an accepted message makes of the record: nothing is judged.
 ghost use mathlib.Core.Path.{_≡_};
-ghost use Prim.Native.Nat.{ℕ};
-ghost use Rattle.catalog.specs.Table.{rowsOf, streamsOf};
+ghost use mathlib.Core.List.{List};
+ghost use Prim.Native.Nat.{ℕ, _%_};
+ghost use lib.ListN.{take, length};
+ghost use Rattle.catalog.specs.Table.{rowsOf, streamsOf, over, row, keyOf, putRow, Leaves};
+ghost use Rattle.session.specs.Events.{Tuple, Change};
 ghost use Rattle.session.specs.Rules.{placeAfter};
 ghost use Rattle.session.specs.State.{flaggedAt, markedAt, stateAt, flagAfter, streamsAfter, rowsAfter};
 ghost use Rattle.session.specs.Machine.{made, phaseOf, currentOf, lsnOf, written};
@@ -10,6 +13,7 @@ use crate::Act;
 use crate::Place;
 use crate::Session;
 use crate::rules;
+use catalog::announcements;
 
 pub fn flagged_at(place: Place, b: bool) -> bool
     ensures { λ r. ⌜ r ≡ flaggedAt place b ⌝ }
@@ -50,7 +54,7 @@ pub fn mark_at<'a>(place: Place, stream_xids: &'a [u32; 16], stream_changed: &'a
     match place {
         Place::Idle => {}
         Place::Transaction(_) => {}
-        Place::Block(xid) => catalog::mark_stream(stream_xids, stream_changed, xid),
+        Place::Block(xid) => catalog::streams::mark_stream(stream_xids, stream_changed, xid),
     }
 }
 
@@ -68,24 +72,62 @@ pub fn apply_streams<'a>(
         Act::Change { .. } => mark_at(place, stream_xids, stream_changed),
         Act::Truncate { .. } => mark_at(place, stream_xids, stream_changed),
         Act::StreamStart { xid, first } => {
-            if first {
-                catalog::replace_stream(stream_xids, stream_changed, 0, xid);
+            if first == 1 {
+                catalog::streams::replace_stream(stream_xids, stream_changed, 0, xid);
             }
         }
-        Act::StreamCommit { xid } => catalog::replace_stream(stream_xids, stream_changed, xid, 0),
+        Act::StreamCommit { xid } => catalog::streams::replace_stream(
+            stream_xids,
+            stream_changed,
+            xid,
+            0,
+        ),
         Act::StreamAbort { xid, sub } => {
             if xid == sub {
-                catalog::replace_stream(stream_xids, stream_changed, xid, 0);
+                catalog::streams::replace_stream(stream_xids, stream_changed, xid, 0);
             }
         }
         _ => {}
     }
 }
 
-// What an accepted message makes of the announcements.
+// Puts an announcement, its identity and column count as words.
+fn announce<'a>(
+    rows: u16,
+    keys: &'a mut [u64; 256],
+    tags: &'a mut [u64; 256],
+    identities: &'a mut [u8; 256],
+    columns: &'a mut [u16; 256],
+    holder: u32,
+    oid: u32,
+    tag: u64,
+    identity: u64,
+    count: u64,
+) -> u16
+    ensures { λ r. ⌜ Leaves 0 rows 0 (putRow 256 (row (keyOf holder oid) tag (identity % 256) (count % 65536)) (take rows (rowsOf (now (keys .entry)) (now (tags .entry)) (now (identities .entry)) (now (columns .entry))))) r (rowsOf (now (keys .entry)) (now (tags .entry)) (now (identities .entry)) (now (columns .entry))) (rowsOf (now (keys .exit)) (now (tags .exit)) (now (identities .exit)) (now (columns .exit))) ⌝ }
+{
+    let letter = (identity % 256) as u8;
+    let width = (count % 65536) as u16;
+    announcements::put(
+        keys,
+        tags,
+        identities,
+        columns,
+        0,
+        rows,
+        0,
+        holder,
+        oid,
+        tag,
+        letter,
+        width,
+    )
+}
+
+// What an accepted message makes of the announcements, and how many there then are.
 pub fn apply_rows<'a>(
-    owners: &'a mut [u32; 256],
-    oids: &'a mut [u32; 256],
+    rows: u16,
+    keys: &'a mut [u64; 256],
     tags: &'a mut [u64; 256],
     identities: &'a mut [u8; 256],
     columns: &'a mut [u16; 256],
@@ -93,8 +135,8 @@ pub fn apply_rows<'a>(
     tag: u64,
     place: Place,
     bytes: &[u8],
-)
-    ensures { λ _. ⌜ (rowsOf (now (owners .exit)) (now (oids .exit)) (now (tags .exit)) (now (identities .exit)) (now (columns .exit))) ≡ rowsAfter (eventIn a (now (bytes .entry))) tag place (rowsOf (now (owners .entry)) (now (oids .entry)) (now (tags .entry)) (now (identities .entry)) (now (columns .entry))) ⌝ }
+) -> u16
+    ensures { λ r. ⌜ (r ≡ length (rowsAfter (eventIn a (now (bytes .entry))) tag place (take rows (rowsOf (now (keys .entry)) (now (tags .entry)) (now (identities .entry)) (now (columns .entry)))))) × (rowsOf (now (keys .exit)) (now (tags .exit)) (now (identities .exit)) (now (columns .exit)) ≡ over (rowsAfter (eventIn a (now (bytes .entry))) tag place (take rows (rowsOf (now (keys .entry)) (now (tags .entry)) (now (identities .entry)) (now (columns .entry))))) (rowsOf (now (keys .entry)) (now (tags .entry)) (now (identities .entry)) (now (columns .entry)))) ⌝ }
 {
     match a {
         Act::Relation {
@@ -103,9 +145,9 @@ pub fn apply_rows<'a>(
             columns: count,
         } => {
             let holder = rules::holder_at(place);
-            catalog::put(
-                owners,
-                oids,
+            announce(
+                rows,
+                keys,
                 tags,
                 identities,
                 columns,
@@ -116,13 +158,17 @@ pub fn apply_rows<'a>(
                 count,
             )
         }
-        Act::StreamCommit { xid } => catalog::release(owners, oids, tags, identities, columns, xid),
+        Act::StreamCommit { xid } => {
+            announcements::release(keys, tags, identities, columns, 0, rows, 0, xid)
+        }
         Act::StreamAbort { xid, sub } => {
             if xid == sub {
-                catalog::drop_holder(owners, oids, tags, identities, columns, xid);
+                announcements::drop_holder(keys, tags, identities, columns, 0, rows, 0, xid)
+            } else {
+                announcements::counted(keys, 0, rows)
             }
         }
-        _ => {}
+        _ => announcements::counted(keys, 0, rows),
     }
 }
 
@@ -157,8 +203,8 @@ pub fn apply<'a>(
     changed: &'a mut u8,
     stream_xids: &'a mut [u32; 16],
     stream_changed: &'a mut [u8; 16],
-    owners: &'a mut [u32; 256],
-    oids: &'a mut [u32; 256],
+    rows: &'a mut u16,
+    keys: &'a mut [u64; 256],
     tags: &'a mut [u64; 256],
     identities: &'a mut [u8; 256],
     columns: &'a mut [u16; 256],
@@ -168,12 +214,13 @@ pub fn apply<'a>(
     bytes: &[u8],
     tag: u64,
 )
-    ensures { λ _. ⌜ ((v : ℕ) → (made v (now (phase .exit)) (now («current_xid» .exit)) (now («final_lsn» .exit)) (now (changed .exit)) (now («stream_xids» .exit)) (now («stream_changed» .exit)) (now (owners .exit)) (now (oids .exit)) (now (tags .exit)) (now (identities .exit)) (now (columns .exit))) ≡ written (made v (now (phase .entry)) (now («current_xid» .entry)) (now («final_lsn» .entry)) (now (changed .entry)) (now («stream_xids» .entry)) (now («stream_changed» .entry)) (now (owners .entry)) (now (oids .entry)) (now (tags .entry)) (now (identities .entry)) (now (columns .entry))) (stateAt place flagged (streamsOf (now («stream_xids» .entry)) (now («stream_changed» .entry))) (rowsOf (now (owners .entry)) (now (oids .entry)) (now (tags .entry)) (now (identities .entry)) (now (columns .entry))) (eventIn a (now (bytes .entry))) tag)) ⌝ }
+    ensures { λ _. ⌜ ((v : ℕ) → (made v (now (phase .exit)) (now («current_xid» .exit)) (now («final_lsn» .exit)) (now (changed .exit)) (now («stream_xids» .exit)) (now («stream_changed» .exit)) (now (rows .exit)) (now (keys .exit)) (now (tags .exit)) (now (identities .exit)) (now (columns .exit))) ≡ written (made v (now (phase .entry)) (now («current_xid» .entry)) (now («final_lsn» .entry)) (now (changed .entry)) (now («stream_xids» .entry)) (now («stream_changed» .entry)) (now (rows .entry)) (now (keys .entry)) (now (tags .entry)) (now (identities .entry)) (now (columns .entry))) (stateAt place flagged (streamsOf (now («stream_xids» .entry)) (now («stream_changed» .entry))) (take (now (rows .entry)) (rowsOf (now (keys .entry)) (now (tags .entry)) (now (identities .entry)) (now (columns .entry)))) (eventIn a (now (bytes .entry))) tag)) ⌝ }
 {
     apply_streams(stream_xids, stream_changed, a, place, bytes);
-    apply_rows(
-        owners,
-        oids,
+    let rows_now = *rows;
+    *rows = apply_rows(
+        rows_now,
+        keys,
         tags,
         identities,
         columns,
@@ -187,5 +234,40 @@ pub fn apply<'a>(
     *changed = rules::bit(mark);
     apply_place(phase, current_xid, final_lsn, next);
     catalog::sized_streams(stream_xids, stream_changed);
-    catalog::sized(owners, oids, tags, identities, columns);
+    catalog::sized(keys, tags, identities, columns);
+}
+
+// The same for an accepted change alone, which touches neither place nor announcements.
+pub fn apply_change<'a>(
+    phase: &'a mut u8,
+    current_xid: &'a mut u32,
+    final_lsn: &'a mut u64,
+    changed: &'a mut u8,
+    stream_xids: &'a [u32; 16],
+    stream_changed: &'a mut [u8; 16],
+    rows: &'a mut u16,
+    keys: &'a [u64; 256],
+    tags: &'a [u64; 256],
+    identities: &'a [u8; 256],
+    columns: &'a [u16; 256],
+    place: Place,
+    flagged: bool,
+)
+    ensures { λ _. ⌜ ((v oid tag : ℕ) (ts : List Tuple) → made v (now (phase .exit)) (now («current_xid» .exit)) (now («final_lsn» .exit)) (now (changed .exit)) (now («stream_xids» .entry)) (now («stream_changed» .exit)) (now (rows .exit)) (now (keys .entry)) (now (tags .entry)) (now (identities .entry)) (now (columns .entry)) ≡ written (made v (now (phase .entry)) (now («current_xid» .entry)) (now («final_lsn» .entry)) (now (changed .entry)) (now («stream_xids» .entry)) (now («stream_changed» .entry)) (now (rows .entry)) (now (keys .entry)) (now (tags .entry)) (now (identities .entry)) (now (columns .entry))) (stateAt place flagged (streamsOf (now («stream_xids» .entry)) (now («stream_changed» .entry))) (take (now (rows .entry)) (rowsOf (now (keys .entry)) (now (tags .entry)) (now (identities .entry)) (now (columns .entry)))) (Change oid ts) tag)) ⌝ }
+{
+    let rows_now = *rows;
+    *rows = announcements::counted(keys, 0, rows_now);
+    let mark = flagged_at(place, flagged);
+    *changed = rules::bit(mark);
+    apply_place(phase, current_xid, final_lsn, place);
+    catalog::sized(keys, tags, identities, columns);
+    catalog::sized_streams(stream_xids, stream_changed);
+    match place {
+        Place::Idle => {}
+        Place::Transaction(_) => {}
+        Place::Block(xid) => {
+            catalog::streams::mark_stream(stream_xids, stream_changed, xid);
+            catalog::sized_streams(stream_xids, stream_changed);
+        }
+    }
 }

@@ -7,11 +7,11 @@ use Rattle.feeds.proofs.give_all.Statement.{statement}
 use Rattle.feeds.proofs.give_all.Tie as tie
 
 abbrev Inv-loop : tie.InvT-loop
-Inv-loop version trace number₀ phase₀ current-xid₀ final-lsn₀ changed₀ stream-xids₀ stream-changed₀ owners₀ oids₀ tags₀ identities₀ columns₀ given₀ accepted₀ at₀ t22 number phase current-xid final-lsn changed stream-xids stream-changed owners oids tags identities columns given accepted at =
+Inv-loop version trace number₀ phase₀ current-xid₀ final-lsn₀ changed₀ stream-xids₀ stream-changed₀ rows₀ keys₀ tags₀ identities₀ columns₀ given₀ accepted₀ at₀ t22 number phase current-xid final-lsn changed stream-xids stream-changed rows keys tags identities columns given accepted at =
     (at ≤ length trace) × (given ≤ at) × (accepted ≤ given)
 
 abbrev μ-loop : tie.MeasureT-loop
-μ-loop version trace number₀ phase₀ current-xid₀ final-lsn₀ changed₀ stream-xids₀ stream-changed₀ owners₀ oids₀ tags₀ identities₀ columns₀ given₀ accepted₀ at₀ t22 number phase current-xid final-lsn changed stream-xids stream-changed owners oids tags identities columns given accepted at =
+μ-loop version trace number₀ phase₀ current-xid₀ final-lsn₀ changed₀ stream-xids₀ stream-changed₀ rows₀ keys₀ tags₀ identities₀ columns₀ given₀ accepted₀ at₀ t22 number phase current-xid final-lsn changed stream-xids stream-changed rows keys tags identities columns given accepted at =
     length trace - at
 
 start-requires : tie.Need-start-requires Inv-loop μ-loop
@@ -33,7 +33,7 @@ returns : tie.Need-returns Inv-loop μ-loop
 returns c = tt
 
 -- a whole record: it has its head, and lies in the trace
-whole : (c : tie.Else1 Inv-loop μ-loop) → (c .before .before .before .loop .at + 6 ≤ c .before .record-end .result) × (c .before .record-end .result ≤ length (now (c .before .before .before .before .before .before .before .before .before .before .before .before .before .args .trace)))
+whole : (c : tie.Else1 Inv-loop μ-loop) → (c .before .before .before .loop .at + 6 ≤ c .before .record-end .result) × (c .before .record-end .result ≤ length (now (c .before .before .before .before .before .before .before .before .before .before .before .before .args .trace)))
 whole c = c .before .record-end .ensures (omega arith)
 
 add-start : tie.Need-add-start Inv-loop μ-loop

@@ -1,7 +1,6 @@
--- `session::step_fields` meets its contract. Assumes nothing.
+use borrow.Author.Needs.{needs}
 use Rattle.session.specs.Machine.{made}
 use Rattle.session.proofs.Stores.{unread, given-event}
-use borrow.Author.Needs.{needs}
 use Rattle.session.proofs.step_fields.Statement.{statement}
 use Rattle.session.proofs.step_fields.Tie as tie
 
@@ -27,12 +26,10 @@ act-fields-requires : tie.Need-act-fields-requires
 act-fields-requires c κs = tt
 
 returns : tie.Need-returns
-returns c = let a = c .before .before .before .before .before .before .before .before .before .before .before .args in
-    unread (made (a .version .now) (a .phase .now) (a .current-xid .now) (a .final-lsn .now) (a .changed .now) (a .stream-xids .now) (a .stream-changed .now) (a .owners .now) (a .oids .now) (a .tags .now) (a .identities .now) (a .columns .now)) (a .bytes .now) (a .tag) _ _ _ (c .before .before .before .before .before .place-of .ensures) (c .before .before .before .before .in-block .ensures) (c .before .before .before .read-message .ensures) _ (c .before .read .given .1)
+returns c = let a = c .before .before .before .before .before .before .before .before .before .before .before .args in unread (made (a .version .now) (a .phase .now) (a .current-xid .now) (a .final-lsn .now) (a .changed .now) (a .stream-xids .now) (a .stream-changed .now) (a .rows .now) (a .keys .now) (a .tags .now) (a .identities .now) (a .columns .now)) (a .bytes .now) (a .tag) _ _ _ (c .before .before .before .before .before .place-of .ensures) (c .before .before .before .before .in-block .ensures) (c .before .before .before .read-message .ensures) _ (c .before .read .given .1)
 
 returns-2 : tie.Need-returns-2
-returns-2 c = let a = c .before .before .before .before .before .before .before .before .before .before .before .before .before .before .before .before .before .before .before .before .before .before .before .before .args in
-    given-event (made (a .version .now) (a .phase .now) (a .current-xid .now) (a .final-lsn .now) (a .changed .now) (a .stream-xids .now) (a .stream-changed .now) (a .owners .now) (a .oids .now) (a .tags .now) (a .identities .now) (a .columns .now)) (a .bytes .now) (a .tag) _ _ _ (c .before .before .before .before .before .before .before .before .before .before .before .before .before .before .before .before .before .before .place-of .ensures) (c .before .before .before .before .before .before .before .before .before .before .before .before .before .before .before .before .before .in-block .ensures) (c .before .before .before .before .before .before .before .before .before .before .before .before .before .before .before .before .read-message .ensures) _ _ (c .before .before .before .before .before .before .before .before .before .before .before .before .before .before .read2 .given .1) (c .before .before .before .before .before .before .before .before .before .before .before .before .act-of .ensures) _ (c .act-fields .ensures)
+returns-2 c = let a = c .before .before .before .before .before .before .before .before .before .before .before .before .before .before .before .before .before .before .before .before .before .before .before .before .args in given-event (made (a .version .now) (a .phase .now) (a .current-xid .now) (a .final-lsn .now) (a .changed .now) (a .stream-xids .now) (a .stream-changed .now) (a .rows .now) (a .keys .now) (a .tags .now) (a .identities .now) (a .columns .now)) (a .bytes .now) (a .tag) _ _ _ (c .before .before .before .before .before .before .before .before .before .before .before .before .before .before .before .before .before .before .place-of .ensures) (c .before .before .before .before .before .before .before .before .before .before .before .before .before .before .before .before .before .in-block .ensures) (c .before .before .before .before .before .before .before .before .before .before .before .before .before .before .before .before .read-message .ensures) _ _ (c .before .before .before .before .before .before .before .before .before .before .before .before .before .before .read2 .given .1) (c .before .before .before .before .before .before .before .before .before .before .before .before .act-of .ensures) _ (c .act-fields .ensures)
 
 pub step-fields-spec : {M : Type 1} → statement M
 step-fields-spec =

@@ -1,4 +1,5 @@
 -- `session::judging::all_visible` meets its contract. Assumes nothing.
+use lib.ListN.{take}
 use Rattle.catalog.specs.Table.{rowsOf}
 use Rattle.session.specs.State.{visibleIn}
 use Prim.Native.Nat.{_≤_}
@@ -12,10 +13,10 @@ use Rattle.session.proofs.judging.all_visible.Statement.{statement}
 use Rattle.session.proofs.judging.all_visible.Tie as tie
 
 abbrev Inv-loop : tie.InvT-loop
-Inv-loop place owners oids tags identities columns bytes start count left₀ at₀ left at = (left ≤ left₀) × (allSeen (visibleIn place (rowsOf owners oids tags identities columns)) (oidsAt left bytes at) ≡ allSeen (visibleIn place (rowsOf owners oids tags identities columns)) (oidsAt count bytes (At start)))
+Inv-loop place rows keys tags identities columns bytes start count left₀ at₀ left at = (left ≤ left₀) × (allSeen (visibleIn place (take rows (rowsOf keys tags identities columns))) (oidsAt left bytes at) ≡ allSeen (visibleIn place (take rows (rowsOf keys tags identities columns))) (oidsAt count bytes (At start)))
 
 abbrev μ-loop : tie.MeasureT-loop
-μ-loop place owners oids tags identities columns bytes start count left₀ at₀ left at = left
+μ-loop place rows keys tags identities columns bytes start count left₀ at₀ left at = left
 
 loop-holds : tie.Need-loop-holds Inv-loop μ-loop
 loop-holds c = (omega arith, refl)
@@ -30,7 +31,7 @@ is-found-requires : tie.Need-is-found-requires Inv-loop μ-loop
 is-found-requires c κs = tt
 
 returns : tie.Need-returns Inv-loop μ-loop
-returns c = seen-miss (visibleIn (c .before .before .before .before .before .before .before .args .place) (rowsOf (c .before .before .before .before .before .before .before .args .owners .now) (c .before .before .before .before .before .before .before .args .oids .now) (c .before .before .before .before .before .before .before .args .tags .now) (c .before .before .before .before .before .before .before .args .identities .now) (c .before .before .before .before .before .before .before .args .columns .now))) _ _ _ (c .before .before .before .number32 .ensures) _ (c .before .before .visible .ensures) _ (c .before .is-found .ensures) _ (c .before .before .before .before .loop-test .taken) (c .if1 .taken) (c .before .before .before .before .before .loop .inv .1)
+returns c = seen-miss (visibleIn (c .before .before .before .before .before .before .before .args .place) (take (c .before .before .before .before .before .before .before .args .rows) (rowsOf (c .before .before .before .before .before .before .before .args .keys .now) (c .before .before .before .before .before .before .before .args .tags .now) (c .before .before .before .before .before .before .before .args .identities .now) (c .before .before .before .before .before .before .before .args .columns .now)))) _ _ _ (c .before .before .before .number32 .ensures) _ (c .before .before .visible .ensures) _ (c .before .is-found .ensures) _ (c .before .before .before .before .loop-test .taken) (c .if1 .taken) (c .before .before .before .before .before .loop .inv .1)
 
 sub-left : tie.Need-sub-left Inv-loop μ-loop
 sub-left c = omega arith
@@ -39,10 +40,10 @@ loop-less : tie.Need-loop-less Inv-loop μ-loop
 loop-less c = omega arith
 
 loop-again : tie.Need-loop-again Inv-loop μ-loop
-loop-again c = (omega arith, seen-turn (visibleIn (c .before .before .before .before .before .before .before .args .place) (rowsOf (c .before .before .before .before .before .before .before .args .owners .now) (c .before .before .before .before .before .before .before .args .oids .now) (c .before .before .before .before .before .before .before .args .tags .now) (c .before .before .before .before .before .before .before .args .identities .now) (c .before .before .before .before .before .before .before .args .columns .now))) _ _ _ (c .before .before .before .number32 .ensures) _ (c .before .before .visible .ensures) _ (c .before .is-found .ensures) _ (c .before .before .before .before .loop-test .taken) (c .if1 .left) (c .before .before .before .before .before .loop .inv .1))
+loop-again c = (omega arith, seen-turn (visibleIn (c .before .before .before .before .before .before .before .args .place) (take (c .before .before .before .before .before .before .before .args .rows) (rowsOf (c .before .before .before .before .before .before .before .args .keys .now) (c .before .before .before .before .before .before .before .args .tags .now) (c .before .before .before .before .before .before .before .args .identities .now) (c .before .before .before .before .before .before .before .args .columns .now)))) _ _ _ (c .before .before .before .number32 .ensures) _ (c .before .before .visible .ensures) _ (c .before .is-found .ensures) _ (c .before .before .before .before .loop-test .taken) (c .if1 .left) (c .before .before .before .before .before .loop .inv .1))
 
 returns-2 : tie.Need-returns-2 Inv-loop μ-loop
-returns-2 c = seen-done (visibleIn (c .before .before .before .args .place) (rowsOf (c .before .before .before .args .owners .now) (c .before .before .before .args .oids .now) (c .before .before .before .args .tags .now) (c .before .before .before .args .identities .now) (c .before .before .before .args .columns .now))) _ _ _ (c .loop-test .left) (c .before .loop .inv .1)
+returns-2 c = seen-done (visibleIn (c .before .before .before .args .place) (take (c .before .before .before .args .rows) (rowsOf (c .before .before .before .args .keys .now) (c .before .before .before .args .tags .now) (c .before .before .before .args .identities .now) (c .before .before .before .args .columns .now)))) _ _ _ (c .loop-test .left) (c .before .loop .inv .1)
 
 pub all-visible-spec : {M : Type 1} → statement M
 all-visible-spec =

@@ -1,4 +1,5 @@
 -- `session::judging::first_visible` meets its contract. Assumes nothing.
+use lib.ListN.{take}
 use Rattle.catalog.specs.Table.{rowsOf}
 use Rattle.session.specs.State.{visibleIn}
 use Rattle.session.proofs.Oids.{first-none, first-some}
@@ -6,7 +7,7 @@ use Rattle.session.proofs.judging.first_visible.Statement.{statement}
 use Rattle.session.proofs.judging.first_visible.Tie as tie
 
 returns : tie.Need-returns
-returns c = first-none (visibleIn (c .before .before .args .place) (rowsOf (c .before .before .args .owners .now) (c .before .before .args .oids .now) (c .before .before .args .tags .now) (c .before .before .args .identities .now) (c .before .before .args .columns .now))) _ _ _ (c .if1 .taken)
+returns c = first-none (visibleIn (c .before .before .args .place) (take (c .before .before .args .rows) (rowsOf (c .before .before .args .keys .now) (c .before .before .args .tags .now) (c .before .before .args .identities .now) (c .before .before .args .columns .now)))) _ _ _ (c .if1 .taken)
 
 number32-requires : tie.Need-number32-requires
 number32-requires c κs = tt
@@ -15,7 +16,7 @@ visible-requires : tie.Need-visible-requires
 visible-requires c κs = tt
 
 returns-2 : tie.Need-returns-2
-returns-2 c = first-some (visibleIn (c .before .before .before .before .args .place) (rowsOf (c .before .before .before .before .args .owners .now) (c .before .before .before .before .args .oids .now) (c .before .before .before .before .args .tags .now) (c .before .before .before .before .args .identities .now) (c .before .before .before .before .args .columns .now))) _ _ _ (c .before .number32 .ensures) _ (c .visible .ensures) _ (c .before .before .if1 .left)
+returns-2 c = first-some (visibleIn (c .before .before .before .before .args .place) (take (c .before .before .before .before .args .rows) (rowsOf (c .before .before .before .before .args .keys .now) (c .before .before .before .before .args .tags .now) (c .before .before .before .before .args .identities .now) (c .before .before .before .before .args .columns .now)))) _ _ _ (c .before .number32 .ensures) _ (c .visible .ensures) _ (c .before .before .if1 .left)
 
 pub first-visible-spec : {M : Type 1} → statement M
 first-visible-spec = tie.close (tie.spec returns number32-requires visible-requires returns-2)

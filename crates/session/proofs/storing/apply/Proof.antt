@@ -1,4 +1,3 @@
--- `session::storing::apply` meets its contract. Assumes nothing.
 use Rattle.session.specs.Machine.{made}
 use Rattle.session.specs.Acts.{eventIn}
 use Rattle.session.proofs.Stores.{stored}
@@ -30,9 +29,7 @@ sized-requires : tie.Need-sized-requires
 sized-requires c κs = tt
 
 returns : tie.Need-returns
-returns c = let a = c .before .before .before .before .before .before .before .before .before .before .before .before .before .before .before .before .before .before .before .before .before .before .before .before .before .before .args in λ v.
-    stored (made v (a .phase .now) (a .current-xid .now) (a .final-lsn .now) (a .changed .now) (a .stream-xids .now) (a .stream-changed .now) (a .owners .now) (a .oids .now) (a .tags .now) (a .identities .now) (a .columns .now)) (eventIn (a .a) (a .bytes .now)) (a .tag) (a .place) (a .flagged) _ _ _ _ _ _ _ _ _ _ _ _ _
-    (c .before .before .before .before .before .before .before .before .before .before .before .before .before .before .before .before .before .before .before .before .before .before .apply-streams .ensures) (c .before .before .before .before .before .before .before .before .before .before .before .before .before .before .before .before .apply-rows .ensures) (c .before .before .before .before .before .before .before .before .before .before .before .before .before .before .before .flag-after .ensures) (c .before .before .before .before .before .before .before .before .before .before .before .before .before .before .place-after .ensures) (c .before .before .before .before .before .before .before .before .before .before .before .before .before .bit .ensures) (c .before .before .before .before .before .before .before .before .before .apply-place .ensures) (c .before .before .before .before .before .before .sized-streams .ensures) (c .sized .ensures)
+returns c = let a = c .before .before .before .before .before .before .before .before .before .before .before .before .before .before .before .before .before .before .before .before .before .before .before .before .before .args in λ v. stored (made v (a .phase .now) (a .current-xid .now) (a .final-lsn .now) (a .changed .now) (a .stream-xids .now) (a .stream-changed .now) (a .rows .now) (a .keys .now) (a .tags .now) (a .identities .now) (a .columns .now)) (eventIn (a .a) (a .bytes .now)) (a .tag) (a .place) (a .flagged) _ _ _ _ _ _ _ _ _ _ _ _ _ (c .before .before .before .before .before .before .before .before .before .before .before .before .before .before .before .before .before .before .before .before .before .apply-streams .ensures) (c .before .before .before .before .before .before .before .before .before .before .before .before .before .before .before .apply-rows .ensures) (c .before .before .before .before .before .before .before .before .before .before .before .before .before .before .flag-after .ensures) (c .before .before .before .before .before .before .before .before .before .before .before .before .before .place-after .ensures) (c .before .before .before .before .before .before .before .before .before .before .before .before .bit .ensures) (c .before .before .before .before .before .before .before .before .apply-place .ensures) (c .before .before .before .before .before .sized-streams .ensures) (c .sized .ensures)
 
 pub apply-spec : {M : Type 1} → statement M
 apply-spec =

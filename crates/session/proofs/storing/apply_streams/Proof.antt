@@ -46,7 +46,7 @@ returns-3 : tie.Need-returns-3
 returns-3 c = c .replace-stream .ensures ∙ sym (rw (c .before .before .before .before .before .a .given .1, c .before .before .before .if1 .taken))
 
 returns-4 : tie.Need-returns-4
-returns-4 c = sym (rw (c .before .before .a .given .1, c .if1 .left))
+returns-4 c = sym (rw (c .before .before .a .given .1, ne-eqb _ _ (c .if1 .left)))
 
 returns-5 : tie.Need-returns-5
 returns-5 c = c .replace-stream2 .ensures ∙ sym (rw (c .before .before .before .before .a2 .given .1))
