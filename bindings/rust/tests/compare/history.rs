@@ -176,8 +176,8 @@ impl History {
         }
     }
 
-    /// Whether 256 pairs of a holder and an OID are live.
-    fn is_full(&self) -> bool {
+    /// The pairs of a holder and an OID that are or were live.
+    fn pairs(&self) -> BTreeSet<(u64, u64)> {
         let mut pairs = BTreeSet::new();
         for entry in &self.entries {
             if let Relation { oid, .. } = entry.event {
@@ -185,7 +185,16 @@ impl History {
                 pairs.insert((0, oid));
             }
         }
-        pairs.len() >= 256 && pairs.into_iter().filter(|&(holder, oid)| self.held(holder, oid).is_some()).count() == 256
+        pairs
+    }
+
+    /// How many pairs of a holder and an OID are live.
+    pub fn live(&self) -> usize {
+        self.pairs().into_iter().filter(|&(holder, oid)| self.held(holder, oid).is_some()).count()
+    }
+
+    fn is_full(&self) -> bool {
+        self.pairs().len() >= 256 && self.live() == 256
     }
 
     fn change(&self, oid: u64, tuples: &[(u64, u64)]) -> Result<Announcement, Refused> {

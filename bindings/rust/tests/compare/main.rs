@@ -8,6 +8,7 @@ mod generate;
 mod history;
 mod layouts;
 mod lent;
+mod moves;
 mod rng;
 mod tally;
 

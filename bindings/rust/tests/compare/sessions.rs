@@ -3,6 +3,7 @@ use crate::generate::{damage, message, Draft};
 use crate::history::{Announcement, History, Place};
 use crate::layouts::Refused;
 use crate::lent::{refused, Lent};
+use crate::moves::Moves;
 use crate::rng::Rng;
 use crate::tally::Tally;
 use kitsoriqu::{Answer, Refusal, Session};
@@ -23,15 +24,25 @@ const MIXED: Pool = Pool { oids: 5, xids: 6, ends: 2, announces: 5, closes: 3 };
 const MANY_STREAMS: Pool = Pool { xids: 40, ends: 10, closes: 0, ..MIXED };
 
 /// More OIDs than there is room for, and mostly announcements.
-const MANY_OIDS: Pool = Pool { oids: 300, announces: 45, ..MIXED };
+const MANY_OIDS: Pool = Pool { oids: 300, xids: 12, announces: 45, closes: 6, ..MIXED };
+
+/// The n-th OID or xid: by turns from the least up, from the middle up and from the greatest down.
+fn spread(n: u64) -> u32 {
+    let step = n as u32 / 3;
+    match n % 3 {
+        0 => 1 + step,
+        1 => 0x7FFF_FFFF + step,
+        _ => u32::MAX - step,
+    }
+}
 
 impl Pool {
     fn oid(&self, rng: &mut Rng) -> u32 {
-        1 + rng.below(self.oids) as u32
+        spread(rng.below(self.oids))
     }
 
     fn xid(&self, rng: &mut Rng) -> u32 {
-        1 + rng.below(self.xids) as u32
+        spread(rng.below(self.xids))
     }
 }
 
@@ -90,8 +101,8 @@ fn idle(rng: &mut Rng, history: &History, pool: &Pool) -> Draft {
         0..=3 => begin(rng, xid),
         4 | 5 => stream_start(xid, !history.is_open(xid.into())),
         6..=8 => stream_start(known, !history.is_open(known.into())),
-        9 => stream_commit(known),
-        10 => stream_abort(known, known),
+        n if n % 3 == 0 => stream_commit(known),
+        n if n % 3 == 1 => stream_abort(known, known),
         _ => stream_abort(known, xid),
     }
 }
@@ -170,38 +181,92 @@ fn give(record: &mut Lent<Record>, bytes: &[u8], tag: u64) -> (u32, [u64; 4]) {
     (number, answer.back())
 }
 
-/// A sequence of messages, each judged by the library and by the history.
-fn compare(rng: &mut Rng, version: Option<u32>, length: usize, pool: &Pool, tally: &mut Tally) {
-    let mut record = Lent::of(Record::ZERO);
-    let mut session = match version {
-        Some(version) => {
-            ffi::session_start(&mut record.value, version);
-            Session::new(version)
-        }
-        None => {
-            ffi::session_start_default(&mut record.value);
-            Session::default()
-        }
-    };
-    let mut history = History::new(version.unwrap_or(1));
-    for _ in 0..length {
-        let bytes = next(rng, &history, pool);
-        let tag = rng.any() >> rng.below(64);
-        let expected = numbers_of(history.give(&bytes, tag));
-        assert_eq!(give(&mut record, &bytes, tag), expected, "{bytes:02X?}");
-        assert_eq!(typed_numbers(session.give(&bytes, tag)), expected);
-        if rng.one_in(50) {
-            session = session.clone();
-        }
-        tally.note(expected.0);
+/// One session three times: the library's record, the typed one, and the history.
+struct Sessions {
+    record: Lent<Record>,
+    typed: Session,
+    history: History,
+}
+
+impl Sessions {
+    fn start(version: Option<u32>) -> Sessions {
+        let mut record = Lent::of(Record::ZERO);
+        let typed = match version {
+            Some(version) => {
+                ffi::session_start(&mut record.value, version);
+                Session::new(version)
+            }
+            None => {
+                ffi::session_start_default(&mut record.value);
+                Session::default()
+            }
+        };
+        Sessions { record, typed, history: History::new(version.unwrap_or(1)) }
     }
-    record.back();
+
+    /// Gives each the message, which all answer alike.
+    fn give(&mut self, bytes: &[u8], tag: u64) -> u32 {
+        let expected = numbers_of(self.history.give(bytes, tag));
+        assert_eq!(give(&mut self.record, bytes, tag), expected, "{bytes:02X?}");
+        assert_eq!(typed_numbers(self.typed.give(bytes, tag)), expected);
+        expected.0
+    }
+
+    /// Ends the transaction or block that stands here.
+    fn leave(&mut self) {
+        match self.history.place() {
+            Place::Idle => 0,
+            Place::Transaction(lsn) => self.give(&commit(lsn).0, 0),
+            Place::Block(_) => self.give(b"E", 0),
+        };
+    }
+
+    /// What each OID of a pool names at this place.
+    fn look(&mut self, pool: &Pool) {
+        let xid = self.history.in_block().then_some(1);
+        for oid in (0..pool.oids).map(spread) {
+            let bytes = Draft::new(b'T').xid(xid).oids(&[oid], 0).0;
+            let expected = self.history.visible(oid.into()).map(Some).ok_or((9, 0));
+            assert_eq!(give(&mut self.record, &bytes, 0), numbers_of(expected), "{oid}");
+        }
+    }
+
+    /// What each OID names in a transaction and in a block of each open stream, and that the record holds no more.
+    fn look_everywhere(mut self, rng: &mut Rng, pool: &Pool) {
+        assert_eq!(usize::from(self.record.value.rows), self.history.live());
+        let open = self.history.open();
+        let free = (1..).find(|xid| !open.contains(xid)).unwrap();
+        let begins = open.iter().map(|&xid| stream_start(xid as u32, false)).chain([begin(rng, free as u32)]);
+        for begin in begins {
+            self.leave();
+            if self.give(&begin.0, 0) == 0 {
+                self.look(pool);
+            }
+        }
+        self.record.back();
+    }
+}
+
+/// A sequence of messages, each judged by the library and by the history.
+fn compare(rng: &mut Rng, version: Option<u32>, length: usize, pool: &Pool, tally: &mut Tally, moves: &mut Moves) -> Sessions {
+    let mut sessions = Sessions::start(version);
+    for _ in 0..length {
+        let bytes = next(rng, &sessions.history, pool);
+        let tag = rng.any() >> rng.below(64);
+        let before = sessions.record.value.clone();
+        tally.note(sessions.give(&bytes, tag));
+        moves.note(&before, &sessions.record.value);
+        if rng.one_in(50) {
+            sessions.typed = sessions.typed.clone();
+        }
+    }
+    sessions
 }
 
 #[test]
 fn sequences() {
     let mut rng = Rng::new(31);
-    let mut tally = Tally::new();
+    let (mut tally, mut moves) = (Tally::new(), Moves::default());
     for i in 0..4_000 {
         let version = match i % 20 {
             0 => None,
@@ -210,61 +275,111 @@ fn sequences() {
             _ => Some(2),
         };
         let length = 20 + rng.below(100) as usize;
-        compare(&mut rng, version, length, &MIXED, &mut tally);
+        compare(&mut rng, version, length, &MIXED, &mut tally, &mut moves).look_everywhere(&mut rng, &MIXED);
     }
     tally.has_seen(&[0, 1, 2, 3, 4, 5, 6, 7, 8, 9, 10], 100);
+    moves.have_been_everywhere(100);
 }
 
 #[test]
 fn room_for_streams() {
     let mut rng = Rng::new(32);
-    let mut tally = Tally::new();
+    let (mut tally, mut moves) = (Tally::new(), Moves::default());
     for _ in 0..200 {
-        compare(&mut rng, Some(2), 400, &MANY_STREAMS, &mut tally);
+        compare(&mut rng, Some(2), 400, &MANY_STREAMS, &mut tally, &mut moves).look_everywhere(&mut rng, &MANY_STREAMS);
     }
     tally.has_seen(&[0, 2, 3, 4, 5, 6, 7, 8, 9, 10, 12], 1);
+    moves.have_been_everywhere(1);
 }
 
 #[test]
 fn room_for_announcements() {
     let mut rng = Rng::new(33);
-    let mut tally = Tally::new();
-    for _ in 0..12 {
-        compare(&mut rng, Some(2), 800, &MANY_OIDS, &mut tally);
+    let (mut tally, mut moves) = (Tally::new(), Moves::default());
+    for _ in 0..20 {
+        // of few holders, mostly announcements that are there already
+        let pool = Pool { xids: rng.pick(&[1, 3, 12]), ..MANY_OIDS };
+        compare(&mut rng, Some(2), 1_200, &pool, &mut tally, &mut moves).look_everywhere(&mut rng, &pool);
     }
     tally.has_seen(&[0, 2, 3, 4, 5, 6, 7, 8, 9, 10, 11], 1);
+    moves.have_been_everywhere(10);
 }
 
-/// A record of any numbers is answered, and a refusal leaves it as it was.
+/// 0, or one of the first OIDs and xids.
+fn few(rng: &mut Rng) -> u32 {
+    match rng.below(8) {
+        0 => 0,
+        n => spread(n - 1),
+    }
+}
+
+/// Keys in any order or sorted, some of them more than once.
+fn made_up_keys(rng: &mut Rng) -> [u64; 256] {
+    let mut keys = std::array::from_fn(|_| u64::from(few(rng)) << 32 | u64::from(few(rng)));
+    if rng.one_in(2) {
+        keys.sort_unstable();
+    }
+    keys
+}
+
+fn made_up(rng: &mut Rng) -> Record {
+    Record {
+        version: rng.pick(&[1, 2, 2, 2, 3]),
+        phase: rng.byte() & rng.pick(&[3, 255]),
+        current_xid: few(rng),
+        final_lsn: rng.below(3),
+        changed: rng.byte() & 3,
+        stream_xids: std::array::from_fn(|_| few(rng)),
+        stream_changed: std::array::from_fn(|_| rng.byte() & 3),
+        rows: rng.pick(&[0, 1, 7, 200, 255, 256, 257, 0xFFFF]),
+        keys: made_up_keys(rng),
+        tags: std::array::from_fn(|_| rng.any()),
+        identities: std::array::from_fn(|_| rng.pick(b"dnfi\0\xFF")),
+        columns: std::array::from_fn(|_| rng.pick(&[0, 1, 2, 1600, 0xFFFF])),
+    }
+}
+
+/// A message that can be read at the history's place, or one that is damaged.
+fn any_next(rng: &mut Rng, history: &History) -> Vec<u8> {
+    let mut bytes = match rng.below(4) {
+        0 => message(rng, history.in_block()),
+        1 => idle(rng, history, &MIXED).0,
+        _ => inside(rng, history, &MIXED).0,
+    };
+    if rng.one_in(10) {
+        damage(rng, &mut bytes);
+    }
+    bytes
+}
+
+/// The record with no more rows in use than there are.
+fn within(record: &Record) -> Record {
+    Record { rows: record.rows.min(256), ..record.clone() }
+}
+
+/// A record of any numbers is answered, a refusal leaves it as it was, and a count of rows over 256 is one of 256.
 #[test]
 fn made_up_records() {
     let mut rng = Rng::new(34);
     let mut tally = Tally::new();
-    let none = History::new(2);
+    let idling = History::new(2);
+    let mut in_block = History::new(2);
+    assert!(in_block.give(&stream_start(1, true).0, 0).is_ok());
     for _ in 0..2_000 {
-        let few = |rng: &mut Rng| rng.any() as u32 & 7;
-        let mut record = Lent::of(Record {
-            version: 1 + rng.below(3) as u32,
-            phase: rng.byte() & rng.pick(&[3, 255]),
-            current_xid: few(&mut rng),
-            final_lsn: rng.below(3),
-            changed: rng.byte() & 3,
-            stream_xids: std::array::from_fn(|_| few(&mut rng)),
-            stream_changed: std::array::from_fn(|_| rng.byte() & 3),
-            owners: std::array::from_fn(|_| few(&mut rng)),
-            oids: std::array::from_fn(|_| few(&mut rng)),
-            tags: std::array::from_fn(|_| rng.any()),
-            identities: std::array::from_fn(|_| rng.pick(b"dnfi\0\xFF")),
-            columns: std::array::from_fn(|_| rng.pick(&[0, 1, 2, 1600, 0xFFFF])),
-        });
+        let mut record = Lent::of(made_up(&mut rng));
+        let mut counted = Lent::of(within(&record.value));
         for _ in 0..20 {
-            let bytes = if rng.one_in(2) { inside(&mut rng, &none, &MIXED).0 } else { message(&mut rng, false) };
+            let history = if record.value.phase == 2 { &in_block } else { &idling };
+            let bytes = any_next(&mut rng, history);
             let (number, answer) = give(&mut record, &bytes, 1);
             let is_filled = if number != 0 { answer[1..] == [0; 3] } else { answer[0] == 1 || answer == [0; 4] };
             assert!(is_filled, "{number} {answer:?}");
+            assert_eq!(give(&mut counted, &bytes, 1), (number, answer));
+            assert!(within(&record.value) == counted.value);
             tally.note(number);
         }
         record.back();
+        counted.back();
     }
-    tally.has_seen(&[0, 1, 2, 3, 4, 6, 7, 8, 9, 10, 12], 1);
+    tally.has_seen(&[0, 1, 2, 3, 4, 5, 6, 7, 8, 9, 10, 11, 12], 1);
 }
