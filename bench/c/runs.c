@@ -93,21 +93,36 @@ void c_run_read(uint32_t version, const span *messages, size_t count, totals *t)
     }
 }
 
+static void give(session *s, span message, uint64_t tag, totals *t)
+{
+    answer a;
+    refusal why;
+    if (c_session_give(s, message.at, message.length, tag, &a, &why)) {
+        t->accepted++;
+        if (a.change) t->sum += a.of.tag;
+    } else {
+        keep(&why);
+        t->refused++;
+    }
+}
+
 void c_run_session(uint32_t version, const span *messages, size_t count, totals *t)
 {
     session s;
-    answer a;
-    refusal why;
     c_session_start(&s, version);
-    for (size_t i = 0; i < count; i++) {
-        if (c_session_give(&s, messages[i].at, messages[i].length, i, &a, &why)) {
-            t->accepted++;
-            if (a.change) t->sum += a.of.tag;
-        } else {
-            keep(&why);
-            t->refused++;
-        }
-    }
+    for (size_t i = 0; i < count; i++) give(&s, messages[i], i, t);
+}
+
+static session copies[COPIES];
+
+void c_copy_session(void)
+{
+    for (size_t i = 0; i < COPIES; i++) copies[i] = checked;
+}
+
+void c_run_copies(span message, totals *t)
+{
+    for (size_t i = 0; i < COPIES; i++) give(&copies[i], message, 0, t);
 }
 
 static message batch[BATCH];

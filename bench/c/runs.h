@@ -21,4 +21,9 @@ void c_fill(uint32_t version, uint32_t *in_block, const span *messages, size_t c
 void c_run_write(uint32_t version, uint8_t *out, size_t room, totals *t);
 void c_run_steps(totals *t);
 
+/* Over copies of a session: `c_copy_session` copies the one that `c_check_session_give` was given to. */
+#define COPIES 32
+void c_copy_session(void);
+void c_run_copies(span message, totals *t);
+
 #endif

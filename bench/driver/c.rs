@@ -21,6 +21,8 @@ extern "C" {
     fn c_fill(version: u32, in_block: *mut u32, messages: *const Span, count: usize);
     fn c_run_write(version: u32, out: *mut u8, room: usize, totals: *mut Totals);
     fn c_run_steps(totals: *mut Totals);
+    fn c_copy_session();
+    fn c_run_copies(message: Span, totals: *mut Totals);
 }
 
 // Every pointer below is a slice's or an array's, with its length; the driver has one thread, and the messages outlive the run.
@@ -89,6 +91,16 @@ impl<'a> Contender<'a> for C {
     fn steps(&self) -> Totals {
         let mut totals = Totals::default();
         unsafe { c_run_steps(&mut totals) };
+        totals
+    }
+
+    fn copy_session(&mut self) {
+        unsafe { c_copy_session() }
+    }
+
+    fn give_copies(&mut self, message: &[u8]) -> Totals {
+        let mut totals = Totals::default();
+        unsafe { c_run_copies(Span::of(message), &mut totals) };
         totals
     }
 }

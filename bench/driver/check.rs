@@ -2,11 +2,14 @@
 use crate::contender::{block_after, Contender};
 use crate::feed::Feed;
 
-pub fn agree<'a>(contenders: &mut [Box<dyn Contender<'a> + 'a>], feed: &Feed<'a>) {
+/// How many messages a session accepts.
+pub fn agree<'a>(contenders: &mut [Box<dyn Contender<'a> + 'a>], feed: &Feed<'a>) -> usize {
+    let mut accepted = 0;
     let mut in_block = false;
     contenders.iter_mut().for_each(|contender| contender.session_start(feed.version));
     for (index, bytes) in feed.messages.iter().enumerate() {
-        let _ = same(contenders, index, |contender| contender.session_give(bytes, index as u64));
+        let answer = same(contenders, index, |contender| contender.session_give(bytes, index as u64));
+        accepted += usize::from(answer.is_ok());
         let read = same(contenders, index, |contender| contender.flat(feed.version, in_block, bytes));
         let written = same(contenders, index, |contender| contender.written(feed.version, in_block, bytes, bytes.len()));
         let _ = same(contenders, index, |contender| contender.written(feed.version, in_block, bytes, bytes.len().saturating_sub(1)));
@@ -16,6 +19,7 @@ pub fn agree<'a>(contenders: &mut [Box<dyn Contender<'a> + 'a>], feed: &Feed<'a>
             in_block = block_after(in_block, flat[0]);
         }
     }
+    accepted
 }
 
 /// A message cut short, and one with a byte changed.

@@ -1,10 +1,14 @@
 use crate::feed::{Feed, Span};
+use std::ops::Add;
 
 /// A refusal's number and offset.
 pub type Refused = (u32, u64);
 
 /// How many messages are read ahead, to be written or stepped through.
 pub const BATCH: usize = 128;
+
+/// How many copies of a session are given a message, one after another.
+pub const COPIES: usize = 32;
 
 /// What a run adds up; all contenders must come to the same.
 #[repr(C)]
@@ -15,6 +19,14 @@ pub struct Totals {
     pub refused: u64,
     /// Of the tags that a session answers, the lengths that were written, or the lengths of values.
     pub sum: u64,
+}
+
+impl Add for Totals {
+    type Output = Totals;
+
+    fn add(self, more: Totals) -> Totals {
+        Totals { accepted: self.accepted + more.accepted, refused: self.refused + more.refused, sum: self.sum + more.sum }
+    }
 }
 
 /// One of those that are compared.
@@ -39,6 +51,9 @@ pub trait Contender<'a> {
     fn fill(&mut self, version: u32, in_block: &mut bool, messages: &[&'a [u8]], spans: &[Span]);
     fn write(&self, version: u32, out: &mut [u8]) -> Totals;
     fn steps(&self) -> Totals;
+    /// Copies the session that `session_give` was given to (not measured).
+    fn copy_session(&mut self);
+    fn give_copies(&mut self, message: &[u8]) -> Totals;
 }
 
 /// Whether the next message stands in a block, after one whose flat form has this kind.

@@ -1,11 +1,12 @@
 //! Kitsoriqu, by its C functions.
-use crate::contender::{block_after, Contender, Refused, Totals};
+use crate::contender::{block_after, Contender, Refused, Totals, COPIES};
 use crate::feed::{Feed, Span};
 use crate::ffi::{self, Record};
 use std::hint::black_box;
 
 pub struct Ours<'a> {
     session: Record,
+    copies: Vec<Record>,
     batch: Vec<Read<'a>>,
 }
 
@@ -21,7 +22,7 @@ const OLD_TUPLE: u32 = 1;
 
 impl Ours<'_> {
     pub fn new() -> Self {
-        Ours { session: Record::ZERO, batch: vec![] }
+        Ours { session: Record::ZERO, copies: vec![], batch: vec![] }
     }
 }
 
@@ -41,6 +42,17 @@ fn step_through(section: u32, bytes: &[u8], start: u64, totals: &mut Totals) {
     while ffi::column_step(section, bytes, &mut position, &mut column) == 0 {
         totals.accepted += 1;
         totals.sum += column[2];
+    }
+}
+
+fn give(session: &mut Record, bytes: &[u8], tag: u64, answer: &mut [u64; ffi::ANSWER], totals: &mut Totals) {
+    let number = ffi::session_give(session, bytes, tag, answer);
+    black_box(&*answer);
+    if number == 0 {
+        totals.accepted += 1;
+        totals.sum += answer[1];
+    } else {
+        totals.refused += 1;
     }
 }
 
@@ -97,14 +109,7 @@ impl<'a> Contender<'a> for Ours<'a> {
         ffi::session_start(&mut session, feed.version);
         let mut answer = [0; ffi::ANSWER];
         for (bytes, tag) in feed.messages.iter().zip(0..) {
-            let number = ffi::session_give(&mut session, bytes, tag, &mut answer);
-            black_box(&answer);
-            if number == 0 {
-                totals.accepted += 1;
-                totals.sum += answer[1];
-            } else {
-                totals.refused += 1;
-            }
+            give(&mut session, bytes, tag, &mut answer, &mut totals);
         }
         totals
     }
@@ -152,6 +157,19 @@ impl<'a> Contender<'a> for Ours<'a> {
                 [8, _, _, _, old, ..] => step_through(OLD_TUPLE, bytes, old, &mut totals),
                 _ => {}
             }
+        }
+        totals
+    }
+
+    fn copy_session(&mut self) {
+        self.copies = vec![self.session.clone(); COPIES];
+    }
+
+    fn give_copies(&mut self, message: &[u8]) -> Totals {
+        let mut totals = Totals::default();
+        let mut answer = [0; ffi::ANSWER];
+        for session in &mut self.copies {
+            give(session, message, 0, &mut answer, &mut totals);
         }
         totals
     }

@@ -1,17 +1,18 @@
 //! The Rust baseline.
-use crate::contender::{Contender, Refused, Totals};
+use crate::contender::{Contender, Refused, Totals, COPIES};
 use crate::feed::{Feed, Span};
 use baseline::{read_message, write_message, Column, Message, Refusal, Session, Tuple};
 use std::hint::black_box;
 
 pub struct Rust<'a> {
     session: Session,
+    copies: Vec<Session>,
     batch: Vec<(bool, Message<'a>)>,
 }
 
 impl Rust<'_> {
     pub fn new() -> Self {
-        Rust { session: Session::new(1), batch: vec![] }
+        Rust { session: Session::new(1), copies: vec![], batch: vec![] }
     }
 }
 
@@ -82,6 +83,18 @@ fn step_through(tuple: Tuple<'_>, totals: &mut Totals) {
     }
 }
 
+fn give(session: &mut Session, bytes: &[u8], tag: u64, totals: &mut Totals) {
+    let answer = session.give(bytes, tag);
+    black_box(&answer);
+    match answer {
+        Ok(seen) => {
+            totals.accepted += 1;
+            totals.sum += seen.map_or(0, |seen| seen.tag);
+        }
+        Err(_) => totals.refused += 1,
+    }
+}
+
 impl<'a> Contender<'a> for Rust<'a> {
     fn name(&self) -> &'static str {
         "Rust"
@@ -129,15 +142,7 @@ impl<'a> Contender<'a> for Rust<'a> {
         let mut totals = Totals::default();
         let mut session = Session::new(feed.version);
         for (bytes, tag) in feed.messages.iter().zip(0..) {
-            let answer = session.give(bytes, tag);
-            black_box(&answer);
-            match answer {
-                Ok(seen) => {
-                    totals.accepted += 1;
-                    totals.sum += seen.map_or(0, |seen| seen.tag);
-                }
-                Err(_) => totals.refused += 1,
-            }
+            give(&mut session, bytes, tag, &mut totals);
         }
         totals
     }
@@ -185,6 +190,18 @@ impl<'a> Contender<'a> for Rust<'a> {
                 Message::Delete { old, .. } => step_through(old, &mut totals),
                 _ => {}
             }
+        }
+        totals
+    }
+
+    fn copy_session(&mut self) {
+        self.copies = vec![self.session.clone(); COPIES];
+    }
+
+    fn give_copies(&mut self, message: &[u8]) -> Totals {
+        let mut totals = Totals::default();
+        for session in &mut self.copies {
+            give(session, message, 0, &mut totals);
         }
         totals
     }

@@ -26,6 +26,7 @@ enum Holder {
     Stream(u32),
 }
 
+#[derive(Clone)]
 pub struct Session {
     version: u32,
     place: Place,

@@ -1,0 +1,42 @@
+//! Messages made by hand.
+
+/// Its xid is no streamed transaction's.
+pub fn begin() -> Vec<u8> {
+    [b"B", &1u64.to_be_bytes()[..], &0u64.to_be_bytes(), &u32::MAX.to_be_bytes()].concat()
+}
+
+pub fn commit() -> Vec<u8> {
+    [b"C\0", &1u64.to_be_bytes()[..], &2u64.to_be_bytes(), &0u64.to_be_bytes()].concat()
+}
+
+// the xid of a Relation and an Insert is empty outside a block
+
+/// `behind` stands behind the OID.
+pub fn relation(xid: &[u8], oid: u32, behind: &[u8]) -> Vec<u8> {
+    [b"R", xid, &oid.to_be_bytes(), behind].concat()
+}
+
+/// What stands behind the OID of a table with one column.
+pub const ONE_COLUMN: &[u8] = b"w\0t\0d\0\x01\x01id\0\0\0\0\x17\xff\xff\xff\xff";
+
+/// Into a table with one column.
+pub fn insert(xid: &[u8], oid: u32) -> Vec<u8> {
+    [b"I", xid, &oid.to_be_bytes(), b"N\0\x01n"].concat()
+}
+
+pub fn first_stream_start(xid: &[u8]) -> Vec<u8> {
+    [b"S", xid, b"\x01"].concat()
+}
+
+pub fn stream_stop() -> Vec<u8> {
+    b"E".to_vec()
+}
+
+pub fn stream_commit(xid: &[u8]) -> Vec<u8> {
+    [b"c", xid, b"\0", &1u64.to_be_bytes(), &2u64.to_be_bytes(), &0u64.to_be_bytes()].concat()
+}
+
+/// Of the whole transaction.
+pub fn stream_abort(xid: &[u8]) -> Vec<u8> {
+    [b"A", xid, xid].concat()
+}
