@@ -1,0 +1,50 @@
+use borrow.Author.Needs.{needs}
+use Rattle.message.specs.Messages.{readKind}
+use Rattle.reader.proofs.changes.read_insert.Statement.{statement}
+use Rattle.reader.proofs.changes.read_insert.Tie as tie
+
+block-xid-requires : tie.Need-block-xid-requires
+block-xid-requires c κs = tt
+
+number32-requires : tie.Need-number32-requires
+number32-requires c κs = tt
+
+slice-aggregate-letter : tie.Need-slice-aggregate-letter
+slice-aggregate-letter c = search needs
+
+letter-requires : tie.Need-letter-requires
+letter-requires c κs = tt
+
+position-requires : tie.Need-position-requires
+position-requires c κs = tt
+
+tuple-after-requires : tie.Need-tuple-after-requires
+tuple-after-requires c κs = tt
+
+settle-requires : tie.Need-settle-requires
+settle-requires c κs = tt
+
+returns : tie.Need-returns
+unfolding readKind
+returns c =
+    rw (
+      c .settle .ensures,
+      c .before .tuple-after .ensures,
+      c .before .before .position .ensures,
+      c .before .before .before .letter .ensures,
+      c .before .before .before .before .before .number32 .ensures,
+      c .before .before .before .before .before .before .block-xid .ensures,
+    )
+
+pub read-insert-spec : {M : Type 1} → statement M
+read-insert-spec =
+    tie.close
+    (tie.spec
+    block-xid-requires
+    number32-requires
+    slice-aggregate-letter
+    letter-requires
+    position-requires
+    tuple-after-requires
+    settle-requires
+    returns)
