@@ -1,0 +1,109 @@
+use mathlib.Core.Path.{_≡_}
+use borrow.Author.Needs.{needs}
+use Rattle.wire.specs.declared.Cursor.the-variants.{At}
+use Rattle.message.specs.Pieces.{messagePieces, steps}
+use Rattle.message.specs.declared.Message.the-variants as a
+use Rattle.writer.proofs.Whole.{lettered, refuse, has-room, accept}
+use Rattle.writer.proofs.changes.write_delete.Statement.{statement}
+use Rattle.writer.proofs.changes.write_delete.Tie as tie
+
+-- the judgement of the fields
+judged : (c : tie.After-fit) → (let s = c .before .before .before .before .before .before .before .before .before .before .before .before in c .before .advance4 .result ≡ steps (messagePieces (s .args .in-block) (a.Delete (s .args .m)) (s .args .source .now)) (At 0))
+judged c =
+    rw (
+      c .before .advance4 .ensures,
+      c .before .before .advance3 .ensures,
+      c .before .before .before .before .before .advance2 .ensures,
+      c .before .before .before .before .before .before .before .advance .ensures,
+      c .before .before .before .judge-letter .ensures,
+      c .before .before .before .before .before .before .judge-id .ensures,
+      c .before .before .before .before .before .before .before .before .judge-xid .ensures,
+      c .before .before .before .before .before .before .before .before .before .judge-tuple .ensures,
+      lettered,
+    )
+
+judge-tuple-requires : tie.Need-judge-tuple-requires
+judge-tuple-requires c κs = tt
+
+judge-xid-requires : tie.Need-judge-xid-requires
+judge-xid-requires c κs = tt
+
+advance-requires : tie.Need-advance-requires
+advance-requires c κs = tt
+
+judge-id-requires : tie.Need-judge-id-requires
+judge-id-requires c κs = tt
+
+advance-requires-2 : tie.Need-advance-requires-2
+advance-requires-2 c κs = tt
+
+slice-aggregate-judge-letter : tie.Need-slice-aggregate-judge-letter
+slice-aggregate-judge-letter c = search needs
+
+judge-letter-requires : tie.Need-judge-letter-requires
+judge-letter-requires c κs = tt
+
+advance-requires-3 : tie.Need-advance-requires-3
+advance-requires-3 c κs = tt
+
+advance-requires-4 : tie.Need-advance-requires-4
+advance-requires-4 c κs = tt
+
+fit-requires : tie.Need-fit-requires
+fit-requires c κs = tt
+
+enum-known-next : tie.Need-enum-known-next
+enum-known-next c = search needs
+
+refused-requires : tie.Need-refused-requires
+refused-requires c κs = tt
+
+enum-known-next-2 : tie.Need-enum-known-next-2
+enum-known-next-2 c = search needs
+
+store-delete-requires : tie.Need-store-delete-requires
+store-delete-requires c κs =
+    let s = c .before .before .before .before .before .before .before .before .before .before .before .before .before .before .before .before in (
+      c .before .before .before .before .before .before .before .before .before .before .before .before .before .judge-tuple .ensures,
+      has-room (s .args .in-block) (a.Delete (s .args .m)) (s .args .source .now) (s .args .out .now)
+          (judged (c .before .before .before .before)) (c .before .before .before .before .fit .ensures) (c .before .before .next2 .given .1),
+    )
+
+returns : tie.Need-returns
+returns c =
+    let s = c .before .before .before .before .before .before .before .before .before .before .before .before .before .before .before .before in
+    refuse (s .args .in-block) (a.Delete (s .args .m)) (s .args .source .now) (s .args .out .now)
+    (judged (c .before .before .before .before)) (c .before .before .before .before .fit .ensures)
+    (c .before .before .next .given .1) (c .refused .ensures)
+
+same-length : tie.Need-same-length
+same-length c = search needs
+
+returns-2 : tie.Need-returns-2
+returns-2 c =
+    let s = c .before .before .before .before .before .before .before .before .before .before .before .before .before .before .before .before .before .before .before in
+    accept (s .args .in-block) (a.Delete (s .args .m)) (s .args .source .now) (s .args .out .now)
+    (judged (c .before .before .before .before .before .before .before)) (c .before .before .before .before .before .before .before .fit .ensures)
+    (c .before .before .before .before .before .next2 .given .1) (c .before .before .store-delete .ensures)
+
+pub write-delete-spec : {M : Type 1} → statement M
+write-delete-spec =
+    tie.close
+    (tie.spec
+    judge-tuple-requires
+    judge-xid-requires
+    advance-requires
+    judge-id-requires
+    advance-requires-2
+    slice-aggregate-judge-letter
+    judge-letter-requires
+    advance-requires-3
+    advance-requires-4
+    fit-requires
+    enum-known-next
+    refused-requires
+    enum-known-next-2
+    store-delete-requires
+    returns
+    same-length
+    returns-2)

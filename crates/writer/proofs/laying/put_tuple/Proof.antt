@@ -1,0 +1,42 @@
+use mathlib.Core.Path.{refl}
+use native.Mathlib.Omega.{arith}
+use borrow.Author.Needs.{needs}
+use Rattle.message.specs.Encode.{fromTo}
+use Rattle.writer.proofs.Stores.{put-in-tail}
+use Rattle.writer.proofs.laying.put_tuple.Statement.{statement}
+use Rattle.writer.proofs.laying.put_tuple.Tie as tie
+
+sub-write-tuple : tie.Need-sub-write-tuple
+sub-write-tuple c = search needs
+
+part-write-tuple-start : tie.Need-part-write-tuple-start
+part-write-tuple-start c = search needs
+
+part-write-tuple-end : tie.Need-part-write-tuple-end
+part-write-tuple-end c = search needs
+
+write-tuple-requires : tie.Need-write-tuple-requires
+write-tuple-requires c κs = search needs
+
+add-result : tie.Need-add-result
+add-result c = search needs
+
+same-length : tie.Need-same-length
+same-length c = search needs
+
+returns : tie.Need-returns
+returns c =
+    let s = c .before .before .before .before .before .before in
+    put-in-tail (s .args .out .now) (s .args .at) (fromTo (s .args .source .now) (s .args .start) (s .args .end)) (omega (arith, s .pre)) refl (c .before .before .write-tuple .ensures .0) (rw (c .before .before .write-tuple .ensures .1))
+
+pub put-tuple-spec : {M : Type 1} → statement M
+put-tuple-spec =
+    tie.close
+    (tie.spec
+    sub-write-tuple
+    part-write-tuple-start
+    part-write-tuple-end
+    write-tuple-requires
+    add-result
+    same-length
+    returns)

@@ -1,0 +1,107 @@
+use mathlib.Core.List.{[]}
+use mathlib.Core.Bool.{false}
+use mathlib.Core.Path.{_≡_}
+use borrow.Author.Needs.{needs}
+use mir.ValLaws.{toZ-ofZ}
+use mir.Val.{SFits}
+use mir.Syntax.{w64}
+use Rattle.wire.specs.declared.Cursor.the-variants.{At}
+use Rattle.message.specs.Pieces.{messagePieces, steps}
+use Rattle.message.specs.declared.Message.the-variants as a
+use Rattle.writer.proofs.Whole.{lettered, refuse, has-room, accept}
+use Rattle.writer.proofs.transactions.write_begin.Statement.{statement}
+use Rattle.writer.proofs.transactions.write_begin.Tie as tie
+
+fits : (c : tie.Start) → SFits w64 (c .args .m .time)
+fits c = search needs
+
+-- the judgement of the fields
+judged : (c : tie.After-fit) → (let s = c .before .before .before .before .before .before .before .before .before .before in c .before .advance3 .result ≡ steps (messagePieces false (a.Begin (s .args .m)) []) (At 0))
+judged c =
+    rw (
+      c .before .advance3 .ensures,
+      c .before .before .before .advance2 .ensures,
+      c .before .before .before .before .before .before .advance .ensures,
+      c .before .before .judge-id .ensures,
+      c .before .before .before .before .judge-number2 .ensures,
+      c .before .before .before .before .before .bits64 .ensures,
+      c .before .before .before .before .before .before .before .judge-number .ensures,
+      toZ-ofZ w64 (c .before .before .before .before .before .before .before .before .before .before .args .m .time) (fits (c .before .before .before .before .before .before .before .before .before .before)),
+      lettered,
+    )
+
+judge-number-requires : tie.Need-judge-number-requires
+judge-number-requires c κs = tt
+
+advance-requires : tie.Need-advance-requires
+advance-requires c κs = tt
+
+bits64-requires : tie.Need-bits64-requires
+bits64-requires c κs = tt
+
+judge-number-requires-2 : tie.Need-judge-number-requires-2
+judge-number-requires-2 c κs = tt
+
+advance-requires-2 : tie.Need-advance-requires-2
+advance-requires-2 c κs = tt
+
+judge-id-requires : tie.Need-judge-id-requires
+judge-id-requires c κs = tt
+
+advance-requires-3 : tie.Need-advance-requires-3
+advance-requires-3 c κs = tt
+
+fit-requires : tie.Need-fit-requires
+fit-requires c κs = tt
+
+enum-known-next : tie.Need-enum-known-next
+enum-known-next c = search needs
+
+refused-requires : tie.Need-refused-requires
+refused-requires c κs = tt
+
+enum-known-next-2 : tie.Need-enum-known-next-2
+enum-known-next-2 c = search needs
+
+store-begin-requires : tie.Need-store-begin-requires
+store-begin-requires c κs =
+    let s = c .before .before .before .before .before .before .before .before .before .before .before .before .before .before in
+    has-room false (a.Begin (s .args .m)) [] (s .args .out .now)
+    (judged (c .before .before .before .before)) (c .before .before .before .before .fit .ensures) (c .before .before .next2 .given .1)
+
+returns : tie.Need-returns
+returns c =
+    let s = c .before .before .before .before .before .before .before .before .before .before .before .before .before .before in
+    refuse false (a.Begin (s .args .m)) [] (s .args .out .now)
+    (judged (c .before .before .before .before)) (c .before .before .before .before .fit .ensures)
+    (c .before .before .next .given .1) (c .refused .ensures)
+
+same-length : tie.Need-same-length
+same-length c = search needs
+
+returns-2 : tie.Need-returns-2
+returns-2 c =
+    let s = c .before .before .before .before .before .before .before .before .before .before .before .before .before .before .before .before .before in
+    accept false (a.Begin (s .args .m)) [] (s .args .out .now)
+    (judged (c .before .before .before .before .before .before .before)) (c .before .before .before .before .before .before .before .fit .ensures)
+    (c .before .before .before .before .before .next2 .given .1) (c .before .before .store-begin .ensures)
+
+pub write-begin-spec : {M : Type 1} → statement M
+write-begin-spec =
+    tie.close
+    (tie.spec
+    judge-number-requires
+    advance-requires
+    bits64-requires
+    judge-number-requires-2
+    advance-requires-2
+    judge-id-requires
+    advance-requires-3
+    fit-requires
+    enum-known-next
+    refused-requires
+    enum-known-next-2
+    store-begin-requires
+    returns
+    same-length
+    returns-2)

@@ -1,0 +1,121 @@
+use mathlib.Core.List.{[]}
+use mathlib.Core.Bool.{false}
+use mathlib.Core.Path.{_≡_}
+use borrow.Author.Needs.{needs}
+use mir.ValLaws.{toZ-ofZ}
+use mir.Val.{SFits}
+use mir.Syntax.{w64}
+use Rattle.wire.specs.declared.Cursor.the-variants.{At}
+use Rattle.message.specs.Pieces.{messagePieces, steps}
+use Rattle.message.specs.declared.Message.the-variants as a
+use Rattle.writer.proofs.Whole.{lettered, refuse, has-room, accept}
+use Rattle.writer.proofs.transactions.write_commit.Statement.{statement}
+use Rattle.writer.proofs.transactions.write_commit.Tie as tie
+
+fits : (c : tie.Start) → SFits w64 (c .args .m .time)
+fits c = search needs
+
+-- the judgement of the fields
+judged : (c : tie.After-fit) → (let s = c .before .before .before .before .before .before .before .before .before .before .before .before in c .before .advance4 .result ≡ steps (messagePieces false (a.Commit (s .args .m)) []) (At 0))
+judged c =
+    rw (
+      c .before .advance4 .ensures,
+      c .before .before .before .before .advance3 .ensures,
+      c .before .before .before .before .before .before .advance2 .ensures,
+      c .before .before .before .before .before .before .before .before .advance .ensures,
+      c .before .before .judge-number4 .ensures,
+      c .before .before .before .bits64 .ensures,
+      c .before .before .before .before .before .judge-number3 .ensures,
+      c .before .before .before .before .before .before .before .judge-number2 .ensures,
+      c .before .before .before .before .before .before .before .before .before .judge-number .ensures,
+      toZ-ofZ w64 (c .before .before .before .before .before .before .before .before .before .before .before .before .args .m .time) (fits (c .before .before .before .before .before .before .before .before .before .before .before .before)),
+      lettered,
+    )
+
+cast-judge-number : tie.Need-cast-judge-number
+cast-judge-number c = search needs
+
+judge-number-requires : tie.Need-judge-number-requires
+judge-number-requires c κs = tt
+
+advance-requires : tie.Need-advance-requires
+advance-requires c κs = tt
+
+judge-number-requires-2 : tie.Need-judge-number-requires-2
+judge-number-requires-2 c κs = tt
+
+advance-requires-2 : tie.Need-advance-requires-2
+advance-requires-2 c κs = tt
+
+judge-number-requires-3 : tie.Need-judge-number-requires-3
+judge-number-requires-3 c κs = tt
+
+advance-requires-3 : tie.Need-advance-requires-3
+advance-requires-3 c κs = tt
+
+bits64-requires : tie.Need-bits64-requires
+bits64-requires c κs = tt
+
+judge-number-requires-4 : tie.Need-judge-number-requires-4
+judge-number-requires-4 c κs = tt
+
+advance-requires-4 : tie.Need-advance-requires-4
+advance-requires-4 c κs = tt
+
+fit-requires : tie.Need-fit-requires
+fit-requires c κs = tt
+
+enum-known-next : tie.Need-enum-known-next
+enum-known-next c = search needs
+
+refused-requires : tie.Need-refused-requires
+refused-requires c κs = tt
+
+enum-known-next-2 : tie.Need-enum-known-next-2
+enum-known-next-2 c = search needs
+
+store-commit-requires : tie.Need-store-commit-requires
+store-commit-requires c κs =
+    let s = c .before .before .before .before .before .before .before .before .before .before .before .before .before .before .before .before in
+    has-room false (a.Commit (s .args .m)) [] (s .args .out .now)
+    (judged (c .before .before .before .before)) (c .before .before .before .before .fit .ensures) (c .before .before .next2 .given .1)
+
+returns : tie.Need-returns
+returns c =
+    let s = c .before .before .before .before .before .before .before .before .before .before .before .before .before .before .before .before in
+    refuse false (a.Commit (s .args .m)) [] (s .args .out .now)
+    (judged (c .before .before .before .before)) (c .before .before .before .before .fit .ensures)
+    (c .before .before .next .given .1) (c .refused .ensures)
+
+same-length : tie.Need-same-length
+same-length c = search needs
+
+returns-2 : tie.Need-returns-2
+returns-2 c =
+    let s = c .before .before .before .before .before .before .before .before .before .before .before .before .before .before .before .before .before .before .before in
+    accept false (a.Commit (s .args .m)) [] (s .args .out .now)
+    (judged (c .before .before .before .before .before .before .before)) (c .before .before .before .before .before .before .before .fit .ensures)
+    (c .before .before .before .before .before .next2 .given .1) (c .before .before .store-commit .ensures)
+
+pub write-commit-spec : {M : Type 1} → statement M
+write-commit-spec =
+    tie.close
+    (tie.spec
+    cast-judge-number
+    judge-number-requires
+    advance-requires
+    judge-number-requires-2
+    advance-requires-2
+    judge-number-requires-3
+    advance-requires-3
+    bits64-requires
+    judge-number-requires-4
+    advance-requires-4
+    fit-requires
+    enum-known-next
+    refused-requires
+    enum-known-next-2
+    store-commit-requires
+    returns
+    same-length
+    returns-2)

@@ -1,0 +1,85 @@
+use mathlib.Core.List.{[]}
+use mathlib.Core.Bool.{false}
+use mathlib.Core.Path.{_≡_}
+use borrow.Author.Needs.{needs}
+use Rattle.wire.specs.declared.Cursor.the-variants.{At}
+use Rattle.message.specs.Pieces.{messagePieces, steps}
+use Rattle.message.specs.declared.Message.the-variants as a
+use Rattle.writer.proofs.Whole.{lettered, refuse, has-room, accept}
+use Rattle.writer.proofs.transactions.write_stream_abort.Statement.{statement}
+use Rattle.writer.proofs.transactions.write_stream_abort.Tie as tie
+
+-- the judgement of the fields
+judged : (c : tie.After-fit) → (let s = c .before .before .before .before .before .before in c .before .advance2 .result ≡ steps (messagePieces false (a.StreamAbort (s .args .xid) (s .args .sub-xid)) []) (At 0))
+judged c =
+    rw (
+      c .before .advance2 .ensures,
+      c .before .before .before .advance .ensures,
+      c .before .before .judge-id2 .ensures,
+      c .before .before .before .before .judge-id .ensures,
+      lettered,
+    )
+
+judge-id-requires : tie.Need-judge-id-requires
+judge-id-requires c κs = tt
+
+advance-requires : tie.Need-advance-requires
+advance-requires c κs = tt
+
+judge-id-requires-2 : tie.Need-judge-id-requires-2
+judge-id-requires-2 c κs = tt
+
+advance-requires-2 : tie.Need-advance-requires-2
+advance-requires-2 c κs = tt
+
+fit-requires : tie.Need-fit-requires
+fit-requires c κs = tt
+
+enum-known-next : tie.Need-enum-known-next
+enum-known-next c = search needs
+
+refused-requires : tie.Need-refused-requires
+refused-requires c κs = tt
+
+enum-known-next-2 : tie.Need-enum-known-next-2
+enum-known-next-2 c = search needs
+
+store-stream-abort-requires : tie.Need-store-stream-abort-requires
+store-stream-abort-requires c κs =
+    let s = c .before .before .before .before .before .before .before .before .before .before in
+    has-room false (a.StreamAbort (s .args .xid) (s .args .sub-xid)) [] (s .args .out .now)
+    (judged (c .before .before .before .before)) (c .before .before .before .before .fit .ensures) (c .before .before .next2 .given .1)
+
+returns : tie.Need-returns
+returns c =
+    let s = c .before .before .before .before .before .before .before .before .before .before in
+    refuse false (a.StreamAbort (s .args .xid) (s .args .sub-xid)) [] (s .args .out .now)
+    (judged (c .before .before .before .before)) (c .before .before .before .before .fit .ensures)
+    (c .before .before .next .given .1) (c .refused .ensures)
+
+same-length : tie.Need-same-length
+same-length c = search needs
+
+returns-2 : tie.Need-returns-2
+returns-2 c =
+    let s = c .before .before .before .before .before .before .before .before .before .before .before .before .before in
+    accept false (a.StreamAbort (s .args .xid) (s .args .sub-xid)) [] (s .args .out .now)
+    (judged (c .before .before .before .before .before .before .before)) (c .before .before .before .before .before .before .before .fit .ensures)
+    (c .before .before .before .before .before .next2 .given .1) (c .before .before .store-stream-abort .ensures)
+
+pub write-stream-abort-spec : {M : Type 1} → statement M
+write-stream-abort-spec =
+    tie.close
+    (tie.spec
+    judge-id-requires
+    advance-requires
+    judge-id-requires-2
+    advance-requires-2
+    fit-requires
+    enum-known-next
+    refused-requires
+    enum-known-next-2
+    store-stream-abort-requires
+    returns
+    same-length
+    returns-2)

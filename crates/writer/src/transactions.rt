@@ -1,0 +1,280 @@
+// The messages that begin and end transactions and stream blocks, and the Origin.
+ghost use mathlib.Core.Bool.{false};
+ghost use mathlib.Core.List.{[]};
+ghost use Prim.Native.Nat.{_≤_};
+ghost use lib.ListN.{length};
+ghost use Rattle.message.specs.declared.Message.the-variants as a;
+ghost use Rattle.message.specs.Pieces.{messagePieces, bytesOf, fieldsWritten};
+ghost use Rattle.writer.specs.Answer.{Settles};
+ghost use Rattle.writer.specs.Store.{Stored};
+use crate::MAX64;
+use crate::Written;
+use crate::judging;
+use crate::laying;
+use message::Begin;
+use message::Commit;
+use message::Origin;
+use message::StreamCommit;
+use wire::Cursor;
+use wire::Refusal;
+
+fn store_begin(out: &mut [u8], m: Begin)
+    requires { ⌜ length (bytesOf (messagePieces false (a.Begin m) [])) ≤ length (now out) ⌝ }
+    ensures { λ r. ⌜ Stored (bytesOf (messagePieces false (a.Begin m) [])) (now (out .entry)) (now (out .exit)) ⌝ }
+{
+    let Begin {
+        final_lsn,
+        time,
+        xid,
+    } = m;
+    let at = laying::put_byte(out, 0, b'B');
+    let at = laying::put_number(out, at, 8, final_lsn);
+    let at = laying::put_number(out, at, 8, wire::bits64(time));
+    laying::put_number(out, at, 4, xid as u64);
+}
+
+pub fn write_begin(out: &mut [u8], m: Begin) -> Written
+    ensures { λ r. ⌜ Settles (fieldsWritten false (a.Begin m) []) (now (out .entry)) r (now (out .exit)) ⌝ }
+{
+    let Begin {
+        final_lsn,
+        time,
+        xid,
+    } = m;
+    let next = Cursor::At(1);
+    let next = judging::advance(
+        next,
+        0,
+        judging::judge_number(8, 0, MAX64, Refusal::FIELD, final_lsn),
+    );
+    let next = judging::advance(
+        next,
+        0,
+        judging::judge_number(8, 0, MAX64, Refusal::FIELD, wire::bits64(time)),
+    );
+    let next = judging::advance(next, 0, judging::judge_id(xid));
+    let next = judging::fit(next, out.len());
+    match next {
+        Cursor::Refused { number, offset } => judging::refused(number, offset),
+        Cursor::At(n) => {
+            store_begin(out, m);
+            Written::Length(n)
+        }
+    }
+}
+
+fn store_commit(out: &mut [u8], m: Commit)
+    requires { ⌜ length (bytesOf (messagePieces false (a.Commit m) [])) ≤ length (now out) ⌝ }
+    ensures { λ r. ⌜ Stored (bytesOf (messagePieces false (a.Commit m) [])) (now (out .entry)) (now (out .exit)) ⌝ }
+{
+    let Commit {
+        flags,
+        commit_lsn,
+        end_lsn,
+        time,
+    } = m;
+    let at = laying::put_byte(out, 0, b'C');
+    let at = laying::put_number(out, at, 1, flags as u64);
+    let at = laying::put_number(out, at, 8, commit_lsn);
+    let at = laying::put_number(out, at, 8, end_lsn);
+    laying::put_number(out, at, 8, wire::bits64(time));
+}
+
+pub fn write_commit(out: &mut [u8], m: Commit) -> Written
+    ensures { λ r. ⌜ Settles (fieldsWritten false (a.Commit m) []) (now (out .entry)) r (now (out .exit)) ⌝ }
+{
+    let Commit {
+        flags,
+        commit_lsn,
+        end_lsn,
+        time,
+    } = m;
+    let next = Cursor::At(1);
+    let next = judging::advance(
+        next,
+        0,
+        judging::judge_number(1, 0, 0, Refusal::FIELD, flags as u64),
+    );
+    let next = judging::advance(
+        next,
+        0,
+        judging::judge_number(8, 0, MAX64, Refusal::FIELD, commit_lsn),
+    );
+    let next = judging::advance(
+        next,
+        0,
+        judging::judge_number(8, 0, MAX64, Refusal::FIELD, end_lsn),
+    );
+    let next = judging::advance(
+        next,
+        0,
+        judging::judge_number(8, 0, MAX64, Refusal::FIELD, wire::bits64(time)),
+    );
+    let next = judging::fit(next, out.len());
+    match next {
+        Cursor::Refused { number, offset } => judging::refused(number, offset),
+        Cursor::At(n) => {
+            store_commit(out, m);
+            Written::Length(n)
+        }
+    }
+}
+
+fn store_origin(out: &mut [u8], m: Origin, source: &[u8])
+    requires { ⌜ length (bytesOf (messagePieces false (a.Origin m) (now source))) ≤ length (now out) ⌝ }
+    ensures { λ r. ⌜ Stored (bytesOf (messagePieces false (a.Origin m) (now (source .entry)))) (now (out .entry)) (now (out .exit)) ⌝ }
+{
+    let Origin { lsn, name } = m;
+    let at = laying::put_byte(out, 0, b'O');
+    let at = laying::put_number(out, at, 8, lsn);
+    laying::put_text(out, at, source, name);
+}
+
+pub fn write_origin(out: &mut [u8], m: Origin, source: &[u8]) -> Written
+    ensures { λ r. ⌜ Settles (fieldsWritten false (a.Origin m) (now (source .entry))) (now (out .entry)) r (now (out .exit)) ⌝ }
+{
+    let Origin { lsn, name } = m;
+    let next = Cursor::At(1);
+    let next = judging::advance(
+        next,
+        0,
+        judging::judge_number(8, 0, MAX64, Refusal::FIELD, lsn),
+    );
+    let next = judging::advance(next, 0, judging::judge_text(source, name));
+    let next = judging::fit(next, out.len());
+    match next {
+        Cursor::Refused { number, offset } => judging::refused(number, offset),
+        Cursor::At(n) => {
+            store_origin(out, m, source);
+            Written::Length(n)
+        }
+    }
+}
+
+fn store_stream_start(out: &mut [u8], xid: u32, first: u8)
+    requires { ⌜ length (bytesOf (messagePieces false (a.StreamStart xid first) [])) ≤ length (now out) ⌝ }
+    ensures { λ r. ⌜ Stored (bytesOf (messagePieces false (a.StreamStart xid first) [])) (now (out .entry)) (now (out .exit)) ⌝ }
+{
+    let at = laying::put_byte(out, 0, b'S');
+    let at = laying::put_number(out, at, 4, xid as u64);
+    laying::put_number(out, at, 1, first as u64);
+}
+
+pub fn write_stream_start(out: &mut [u8], xid: u32, first: u8) -> Written
+    ensures { λ r. ⌜ Settles (fieldsWritten false (a.StreamStart xid first) []) (now (out .entry)) r (now (out .exit)) ⌝ }
+{
+    let next = Cursor::At(1);
+    let next = judging::advance(next, 0, judging::judge_id(xid));
+    let next = judging::advance(
+        next,
+        0,
+        judging::judge_number(1, 0, 1, Refusal::FIELD, first as u64),
+    );
+    let next = judging::fit(next, out.len());
+    match next {
+        Cursor::Refused { number, offset } => judging::refused(number, offset),
+        Cursor::At(n) => {
+            store_stream_start(out, xid, first);
+            Written::Length(n)
+        }
+    }
+}
+
+pub fn write_stream_stop(out: &mut [u8]) -> Written
+    ensures { λ r. ⌜ Settles (fieldsWritten false a.StreamStop []) (now (out .entry)) r (now (out .exit)) ⌝ }
+{
+    let next = judging::fit(Cursor::At(1), out.len());
+    match next {
+        Cursor::Refused { number, offset } => judging::refused(number, offset),
+        Cursor::At(_) => {
+            let end = laying::put_byte(out, 0, b'E');
+            Written::Length(end)
+        }
+    }
+}
+
+fn store_stream_commit(out: &mut [u8], m: StreamCommit)
+    requires { ⌜ length (bytesOf (messagePieces false (a.StreamCommit m) [])) ≤ length (now out) ⌝ }
+    ensures { λ r. ⌜ Stored (bytesOf (messagePieces false (a.StreamCommit m) [])) (now (out .entry)) (now (out .exit)) ⌝ }
+{
+    let StreamCommit {
+        xid,
+        flags,
+        commit_lsn,
+        end_lsn,
+        time,
+    } = m;
+    let at = laying::put_byte(out, 0, b'c');
+    let at = laying::put_number(out, at, 4, xid as u64);
+    let at = laying::put_number(out, at, 1, flags as u64);
+    let at = laying::put_number(out, at, 8, commit_lsn);
+    let at = laying::put_number(out, at, 8, end_lsn);
+    laying::put_number(out, at, 8, wire::bits64(time));
+}
+
+pub fn write_stream_commit(out: &mut [u8], m: StreamCommit) -> Written
+    ensures { λ r. ⌜ Settles (fieldsWritten false (a.StreamCommit m) []) (now (out .entry)) r (now (out .exit)) ⌝ }
+{
+    let StreamCommit {
+        xid,
+        flags,
+        commit_lsn,
+        end_lsn,
+        time,
+    } = m;
+    let next = Cursor::At(1);
+    let next = judging::advance(next, 0, judging::judge_id(xid));
+    let next = judging::advance(
+        next,
+        0,
+        judging::judge_number(1, 0, 0, Refusal::FIELD, flags as u64),
+    );
+    let next = judging::advance(
+        next,
+        0,
+        judging::judge_number(8, 0, MAX64, Refusal::FIELD, commit_lsn),
+    );
+    let next = judging::advance(
+        next,
+        0,
+        judging::judge_number(8, 0, MAX64, Refusal::FIELD, end_lsn),
+    );
+    let next = judging::advance(
+        next,
+        0,
+        judging::judge_number(8, 0, MAX64, Refusal::FIELD, wire::bits64(time)),
+    );
+    let next = judging::fit(next, out.len());
+    match next {
+        Cursor::Refused { number, offset } => judging::refused(number, offset),
+        Cursor::At(n) => {
+            store_stream_commit(out, m);
+            Written::Length(n)
+        }
+    }
+}
+
+fn store_stream_abort(out: &mut [u8], xid: u32, sub_xid: u32)
+    requires { ⌜ length (bytesOf (messagePieces false (a.StreamAbort xid «sub_xid») [])) ≤ length (now out) ⌝ }
+    ensures { λ r. ⌜ Stored (bytesOf (messagePieces false (a.StreamAbort xid «sub_xid») [])) (now (out .entry)) (now (out .exit)) ⌝ }
+{
+    let at = laying::put_byte(out, 0, b'A');
+    let at = laying::put_number(out, at, 4, xid as u64);
+    laying::put_number(out, at, 4, sub_xid as u64);
+}
+
+pub fn write_stream_abort(out: &mut [u8], xid: u32, sub_xid: u32) -> Written
+    ensures { λ r. ⌜ Settles (fieldsWritten false (a.StreamAbort xid «sub_xid») []) (now (out .entry)) r (now (out .exit)) ⌝ }
+{
+    let next = Cursor::At(1);
+    let next = judging::advance(next, 0, judging::judge_id(xid));
+    let next = judging::advance(next, 0, judging::judge_id(sub_xid));
+    let next = judging::fit(next, out.len());
+    match next {
+        Cursor::Refused { number, offset } => judging::refused(number, offset),
+        Cursor::At(n) => {
+            store_stream_abort(out, xid, sub_xid);
+            Written::Length(n)
+        }
+    }
+}
