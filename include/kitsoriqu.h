@@ -104,25 +104,14 @@ uint32_t kq_column_start(uint32_t version, uint32_t in_block, const uint8_t *byt
 #define KQ_STEP 5
 uint32_t kq_column_step(uint32_t section, const uint8_t *bytes, size_t len, uint64_t position[2], uint64_t out[KQ_STEP]);
 
-/* A session: numbers only, each content of which means something, so that a made-up one is answered too. Start it with one of the two
- * functions below and leave its fields alone: they are named here for their sizes, and may lie otherwise in another version of the
- * library. It may be moved and copied; one session must not be given two messages at once. */
+/* A session: numbers that nobody names, and every content of them is answered. Start it with one of the two functions below. It may be
+ * moved and copied; one session must not be given two messages at once. Its size may differ in another version of the library: compile
+ * against the header of the archive that is linked. */
+#define KQ_SESSION_WORDS 624
+#define KQ_SESSION_SIZE 4992
 typedef struct kq_session {
-    uint32_t version;
-    uint8_t phase;
-    uint32_t current_xid;
-    uint64_t final_lsn;
-    uint8_t changed;
-    uint32_t stream_xids[16];
-    uint8_t stream_changed[16];
-    uint16_t rows;
-    uint64_t keys[256];
-    uint64_t tags[256];
-    uint8_t identities[256];
-    uint16_t columns[256];
+    uint64_t opaque[KQ_SESSION_WORDS];
 } kq_session;
-
-#define KQ_SESSION_SIZE 4976
 
 /* Starts a session of a version. With a version that is not 1 or 2 it answers KQ_VERSION at 0 to every message. */
 void kq_session_start(kq_session *session, uint32_t version);

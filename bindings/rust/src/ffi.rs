@@ -13,39 +13,18 @@ pub const ANSWER: usize = 4;
 /// What `column_step` returns when there is nothing left.
 pub const OVER: u32 = 255;
 
-/// The header's `kq_session`. It is numbers only, so every content is a value of it.
+/// The words of a session's record.
+pub const SESSION_WORDS: usize = 624;
+
+/// The header's `kq_session`: numbers that nobody names. Every content is a value of it.
 #[repr(C)]
 #[derive(Clone, PartialEq)]
 pub struct Record {
-    pub version: u32,
-    pub phase: u8,
-    pub current_xid: u32,
-    pub final_lsn: u64,
-    pub changed: u8,
-    pub stream_xids: [u32; 16],
-    pub stream_changed: [u8; 16],
-    pub rows: u16,
-    pub keys: [u64; 256],
-    pub tags: [u64; 256],
-    pub identities: [u8; 256],
-    pub columns: [u16; 256],
+    pub opaque: [u64; SESSION_WORDS],
 }
 
 impl Record {
-    pub const ZERO: Record = Record {
-        version: 0,
-        phase: 0,
-        current_xid: 0,
-        final_lsn: 0,
-        changed: 0,
-        stream_xids: [0; 16],
-        stream_changed: [0; 16],
-        rows: 0,
-        keys: [0; 256],
-        tags: [0; 256],
-        identities: [0; 256],
-        columns: [0; 256],
-    };
+    pub const ZERO: Record = Record { opaque: [0; SESSION_WORDS] };
 }
 
 extern "C" {
@@ -93,7 +72,8 @@ pub fn column_step(section: u32, bytes: &[u8], position: &mut [u64; 2], out: &mu
 
 #[inline]
 pub fn session_start(session: &mut Record, version: u32) {
-    // SAFETY: `session` is a whole record, laid out as the header's (tests/header.rs compares them).
+    // SAFETY: `session` is a whole record: as large and aligned as the header's, and as what the archive writes (tests/header.rs and
+    // tests/record.rs compare them).
     unsafe { kq_session_start(session, version) }
 }
 

@@ -69,6 +69,6 @@ impl Default for Session {
 
 impl fmt::Debug for Session {
     fn fmt(&self, f: &mut fmt::Formatter<'_>) -> fmt::Result {
-        f.debug_struct("Session").field("version", &self.record.version).finish_non_exhaustive()
+        f.debug_struct("Session").finish_non_exhaustive()
     }
 }

@@ -1,6 +1,7 @@
 // A session in the caller's record.
 ghost use mathlib.Core.Path.{_≡_};
-ghost use Rattle.session.specs.Machine.{stepOf, startOf, named, unnamed};
+ghost use Rattle.session.specs.Rules.{named, unnamed};
+ghost use Rattle.session.specs.Machine.{stepOf, startOf};
 ghost use Rattle.capi.specs.Filled.{filled};
 ghost use Rattle.capi.specs.Sessions.{answerNumbers};
 use message::Version;

@@ -5,8 +5,8 @@ use Prim.Native.Nat.{ℕ, zero, suc, _<_}
 use native.Mathlib.Omega.{arith}
 use lib.ListN.{length, getD, set}
 use lib.Seq.{ext-getD}
-use Rattle.catalog.specs.Lists.{each}
-use Rattle.catalog.specs.Table.{Row, row, rowsOf, first, rest, Sized, noRow}
+use Rattle.wire.specs.Lists.{each, first, rest}
+use Rattle.catalog.specs.Table.{Row, row, rowsOf, Sized, noRow}
 
 -- a column's head and tail
 pub first-is : (l : List ℕ) → first l ≡ getD l 0 0

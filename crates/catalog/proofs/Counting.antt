@@ -5,7 +5,7 @@ use mathlib.Core.Bool.{Bool, true, false, cond, not, _||_, true≢false, false�
 use Prim.Native.Nat.{ℕ, suc, _+_, _≤_, _<_}
 use native.Mathlib.Omega.{arith}
 use lib.ListN.{length}
-use Rattle.catalog.specs.Lists.{any, tally, replaceFirst, keep, distinct}
+use Rattle.wire.specs.Lists.{any, tally, replaceFirst, keep, distinct}
 
 -- 1 for true
 abbrev pub bit : Bool → ℕ

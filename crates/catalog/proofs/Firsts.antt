@@ -5,7 +5,7 @@ use mathlib.Core.Bool.{Bool, true, false, cond, _||_, true≢false, false≢true
 use Prim.Native.Nat.{suc, _+_}
 use native.Mathlib.Omega.{arith}
 use lib.ListN.{length}
-use Rattle.catalog.specs.Lists.{any, tally, replaceFirst, change, firstOf}
+use Rattle.wire.specs.Lists.{any, tally, replaceFirst, change, firstOf}
 
 module _ {A B : Type 0} (out : A → B) (rest : B) (p q : A → Bool) (b : A) where
   -- neither the row that goes nor the one that comes passes q

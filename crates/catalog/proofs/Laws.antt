@@ -9,7 +9,7 @@ use lib.Dec.{eqb}
 use borrow.Author.Tests.{eqb-true, eqb-false, eq-eqb, ne-eqb, leb-false}
 use Rattle.catalog.specs.declared.Lookup.{Lookup}
 use Rattle.catalog.specs.declared.Lookup.the-variants.{Missing}
-use Rattle.catalog.specs.Lists.{any, tally}
+use Rattle.wire.specs.Lists.{any, tally}
 use Rattle.catalog.specs.Table.{Row, keyOf, keyIs, foundIn, lookupIn, seenIn, hasIn, isFull, heldBy, dropped, released, putRow, Sorted, Small, placeIn, noRow}
 use Rattle.catalog.proofs.Sorted as s
 use Rattle.catalog.proofs.Sorted.{commons}

@@ -6,7 +6,7 @@ use native.Mathlib.Numerals.{add-one}
 use native.Mathlib.Omega.{arith}
 use lib.ListN.{length, take, drop, getD, set, drop-of-length-le}
 use lib.Seq.{drop-cons, take-suc-set, drop-set-lt, take-all}
-use Rattle.catalog.specs.Lists.{change}
+use Rattle.wire.specs.Lists.{change}
 
 module _ {A : Type 0} (f : A → A) (d : A) where
   pub change-turn : (l : List A) (i : ℕ) → i < length l

@@ -8,7 +8,7 @@ use native.Mathlib.Omega.{arith}
 use lib.Dec.{eqb, ltb}
 use lib.ListN.{length}
 use borrow.Author.Tests.{ltb-true, ltb-false, eqb-true, eqb-false, eq-eqb, ne-eqb, lt-ltb}
-use Rattle.catalog.specs.Lists.{any}
+use Rattle.wire.specs.Lists.{any}
 use Rattle.catalog.specs.Table.{Row, looked, seek, is, keyAt, placeIn}
 use Rattle.catalog.specs.Looks.{looks}
 use Rattle.catalog.proofs.Seek.{seek-zero, seek-look, seek-none, seek-ends, reach}

@@ -7,7 +7,7 @@ use native.Mathlib.Numerals.{add-one}
 use native.Mathlib.Omega.{arith}
 use lib.ListN.{length, take, drop, getD, set, length-append, length-take, length-drop, drop-of-length-le}
 use lib.Seq.{take-suc, drop-cons, take-append-seam, drop-append-add, getD-append-add, set-append-seam, append-snoc, drop-append-le, drop-drop, getD-drop, length-take-le, take-take, take-append-le}
-use Rattle.catalog.specs.Lists.{keep}
+use Rattle.wire.specs.Lists.{keep}
 use Rattle.catalog.specs.Table.{Row, noRow, over, part, insertAt}
 use Rattle.catalog.proofs.Sorted.{keep-most}
 

@@ -7,7 +7,7 @@ use native.Mathlib.Omega.{arith}
 use lib.ListN.{length, take, drop, getD, set, length-append, length-set, drop-of-length-le}
 use lib.Seq.{take-at, drop-at, drop-cons, drop-drop, getD-take, getD-drop, length-take-le}
 use borrow.Author.Tests.{leb-false}
-use Rattle.catalog.specs.Lists.{keep, change}
+use Rattle.wire.specs.Lists.{keep, change}
 use Rattle.catalog.specs.Table.{Row, noRow, over, part, within, roomBeside, Leaves, isFull, hasIn, placeIn, insertAt, putRow, putAll, heldBy, notHeldBy, dropped, commonRow, released}
 use Rattle.catalog.proofs.Sorted.{keep-most}
 use Rattle.catalog.proofs.Over.{over-take, over-drop, over-over, insert-length}

@@ -7,7 +7,7 @@ use native.Mathlib.Numerals.{add-one}
 use native.Mathlib.Omega.{arith}
 use lib.ListN.{length, drop, getD, set, drop-of-length-le}
 use lib.Seq.{drop-cons}
-use Rattle.catalog.specs.Lists.{any, replaceFirst, firstOf, indexOf}
+use Rattle.wire.specs.Lists.{any, replaceFirst, firstOf, indexOf}
 
 module _ {A : Type 0} (p : A → Bool) (d : A) where
   pub index-hit : (l : List A) (i n : ℕ) → i < length l → p (getD l i d) ≡ true → i + indexOf p (drop i l) ≡ n → i ≡ n

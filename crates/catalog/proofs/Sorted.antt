@@ -9,8 +9,8 @@ use lib.ListN.{length, getD, set}
 use borrow.Author.Tests.{ltb-true, ltb-false, leb-true, leb-false, eqb-true, eqb-false, eq-eqb, ne-eqb, lt-ltb, le-ltb, le-leb, lt-leb}
 use Rattle.catalog.specs.declared.Lookup.{Lookup}
 use Rattle.catalog.specs.declared.Lookup.the-variants.{Missing}
-use Rattle.catalog.specs.Lists.{any, tally, keep, change, indexOf}
-use Rattle.catalog.specs.Table.{Row, row, noRow, keyAt, placeIn, isAt, foundIn, seenIn, hasIn, isFull, insertAt, putRow, putAll, heldBy, dropped, commonRow, Above, Sorted, keyIs, lookupIn, keyOf, Small}
+use Rattle.wire.specs.Lists.{any, tally, keep, change, indexOf}
+use Rattle.catalog.specs.Table.{Row, noRow, keyAt, placeIn, isAt, foundIn, seenIn, hasIn, isFull, insertAt, putRow, putAll, heldBy, dropped, commonRow, Above, Sorted, keyIs, lookupIn, keyOf, Small}
 use Rattle.catalog.proofs.Seek.{seek-finds}
 use Rattle.catalog.proofs.Searches.{index-most}
 

@@ -8,8 +8,8 @@ use lib.Dec.{eqb, ltb}
 use lib.ListN.{length, take, drop, getD, set, length-set}
 use lib.Seq.{ext-getD, set-out}
 use borrow.Author.Tests.{ltb-true, ltb-false}
-use Rattle.catalog.specs.Lists.{any, indexOf, replaceFirst, change, each, firstOf}
-use Rattle.catalog.specs.Table.{Stream, streamsOf, first, rest, is, xidIs, changedOf, freeStream, newStream, marked}
+use Rattle.wire.specs.Lists.{any, indexOf, replaceFirst, change, each, firstOf, first, rest}
+use Rattle.catalog.specs.Table.{Stream, streamsOf, is, xidIs, changedOf, freeStream, newStream, marked}
 use Rattle.catalog.proofs.Searches.{any-at, any-not, swap-at, first-at, first-not}
 use Rattle.catalog.proofs.Loops.{change-turn, change-end}
 use Rattle.catalog.proofs.Columns.{each-length, each-at, first-is, rest-at, rest-short, first-set, rest-set, first-later, rest-later}

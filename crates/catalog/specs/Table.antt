@@ -5,7 +5,7 @@ use mathlib.Core.List.{List, [], _∷_, _++_}
 use mathlib.Core.Bool.{Bool, cond, not, _&&_}
 use lib.Dec.{eqb, ltb, leb}
 use lib.ListN.{length, getD, set, take, drop}
-use Rattle.catalog.specs.Lists.{firstOf, keep, change}
+use Rattle.wire.specs.Lists.{firstOf, keep, change, first, rest}
 use Rattle.catalog.specs.declared.Lookup.{Lookup}
 use Rattle.catalog.specs.declared.Lookup.the-variants.{Missing, Found}
 
@@ -34,14 +34,6 @@ heldBy t r = eqb (r .key / 4294967296) t
 
 abbrev pub notHeldBy : ℕ → Row → Bool
 notHeldBy t r = not (heldBy t r)
-
-abbrev pub first : List ℕ → ℕ
-first [] = 0
-first (a ∷ l) = a
-
-abbrev pub rest : List ℕ → List ℕ
-rest [] = []
-rest (a ∷ l) = l
 
 -- a row for each key; a list that is too short gives zeros
 abbrev pub rowsOf : List ℕ → List ℕ → List ℕ → List ℕ → List Row

@@ -1,5 +1,6 @@
 // The tables of a session, over arrays that the caller lends: the announcements, and the open streamed transactions.
 pub mod announcements;
+mod rows;
 mod search;
 pub mod streams;
 

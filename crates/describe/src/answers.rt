@@ -7,7 +7,9 @@ use columns::TruncatedRelation;
 use message::Message;
 use message::Read;
 use message::Truncate;
+use message::Version;
 use session::Answer;
+use session::Place;
 use session::Session;
 use wire::Refusal;
 
@@ -48,43 +50,10 @@ fn put_announcement(
     text::put(line, at, b")")
 }
 
-// The announcement of a relation that a change at this place sees: the open block's own before the common one.
-fn seen(session: Session, oid: u32) -> Lookup {
-    let rows = session.rows;
-    let keys = session.keys;
-    let tags = session.tags;
-    let identities = session.identities;
-    let columns = session.columns;
-    if session.phase == Session::BLOCK {
-        let own = catalog::announcements::find_announcement(
-            &keys,
-            &tags,
-            &identities,
-            &columns,
-            0,
-            rows,
-            session.current_xid,
-            oid,
-        );
-        if let Lookup::Found {
-            tag: _,
-            identity: _,
-            columns: _,
-        } = own {
-            return own;
-        }
-    }
-    catalog::announcements::find_announcement(&keys, &tags, &identities, &columns, 0, rows, 0, oid)
-}
-
 fn is_seen(session: Session, oid: u32) -> bool {
-    match seen(session, oid) {
+    match session::visible_in(session, oid) {
         Lookup::Missing => false,
-        Lookup::Found {
-            tag: _,
-            identity: _,
-            columns: _,
-        } => true,
+        Lookup::Found { .. } => true,
     }
 }
 
@@ -119,32 +88,32 @@ fn relation_of(session: Session, m: Message, bytes: &[u8]) -> u32 {
 }
 
 // Where the session stands.
-fn put_standing(line: &mut [u8], at: usize, phase: u8, xid: u32) -> usize {
-    match phase {
-        Session::TRANSACTION => text::put(line, at, b": the session is in a transaction"),
-        Session::BLOCK => text::put_number(
+fn put_standing(line: &mut [u8], at: usize, place: Place) -> usize {
+    match place {
+        Place::Idle => text::put(line, at, b": the session is idle"),
+        Place::Transaction(_) => text::put(line, at, b": the session is in a transaction"),
+        Place::Block(xid) => text::put_number(
             line,
             at,
             b": the session is in a block of xid ",
             xid as u64,
         ),
-        _ => text::put(line, at, b": the session is idle"),
     }
 }
 
-// Where a kind can't stand. An Origin elsewhere than idle comes too late.
-fn put_place(line: &mut [u8], at: usize, session: Session, m: Message) -> usize {
-    let phase = session.phase;
-    let at = put_standing(line, at, phase, session.current_xid);
+// An Origin elsewhere than idle comes too late.
+fn put_late(line: &mut [u8], at: usize, place: Place) -> usize {
+    match place {
+        Place::Idle => at,
+        _ => text::put(line, at, b" and a change came before"),
+    }
+}
+
+// Where a kind can't stand.
+fn put_place(line: &mut [u8], at: usize, place: Place, m: Message) -> usize {
+    let at = put_standing(line, at, place);
     match m {
-        Message::Origin(_) => {
-            text::put_if(
-                line,
-                at,
-                phase != Session::IDLE,
-                b" and a change came before",
-            )
-        }
+        Message::Origin(_) => put_late(line, at, place),
         _ => at,
     }
 }
@@ -159,13 +128,19 @@ fn put_unfit_xid(line: &mut [u8], at: usize, xid: u32, is_open: bool) -> usize {
     }
 }
 
+// The final LSN that a Commit needs.
+fn put_final_lsn(line: &mut [u8], at: usize, place: Place) -> usize {
+    match place {
+        Place::Transaction(lsn) => text::put_lsn(line, at, b": the Begin's final LSN is ", lsn),
+        _ => at,
+    }
+}
+
 // The xid or LSN that doesn't fit.
-fn put_unfit(line: &mut [u8], at: usize, session: Session, m: Message) -> usize {
+fn put_unfit(line: &mut [u8], at: usize, place: Place, m: Message) -> usize {
     match m {
         Message::Begin(x) => put_unfit_xid(line, at, x.xid, true),
-        Message::Commit(_) => {
-            text::put_lsn(line, at, b": the Begin's final LSN is ", session.final_lsn)
-        }
+        Message::Commit(_) => put_final_lsn(line, at, place),
         Message::StreamStart { xid, first } => put_unfit_xid(line, at, xid, first == 1),
         Message::StreamCommit(x) => put_unfit_xid(line, at, x.xid, false),
         Message::StreamAbort { xid, .. } => put_unfit_xid(line, at, xid, false),
@@ -175,7 +150,7 @@ fn put_unfit(line: &mut [u8], at: usize, session: Session, m: Message) -> usize 
 
 // The announcement that a change differs from.
 fn put_seen(line: &mut [u8], at: usize, session: Session, oid: u32) -> usize {
-    match seen(session, oid) {
+    match session::visible_in(session, oid) {
         Lookup::Missing => at,
         Lookup::Found {
             tag,
@@ -195,8 +170,8 @@ fn put_cause(
     bytes: &[u8],
 ) -> usize {
     match number {
-        Refusal::PLACE => put_place(line, at, session, m),
-        Refusal::TRANSACTION => put_unfit(line, at, session, m),
+        Refusal::PLACE => put_place(line, at, session::place_of(session), m),
+        Refusal::TRANSACTION => put_unfit(line, at, session::place_of(session), m),
         Refusal::RELATION => {
             let oid = relation_of(session, m, bytes);
             text::put_number(line, at, b" of relation ", oid as u64)
@@ -214,7 +189,7 @@ fn put_damage(
     at: usize,
     number: u8,
     offset: usize,
-    version: u32,
+    version: Version,
     bytes: &[u8],
 ) -> usize {
     if bytes.len() <= offset {
@@ -222,7 +197,7 @@ fn put_damage(
     }
     match number {
         Refusal::VERSION | Refusal::KIND => {
-            text::put_number(line, at, b": version ", version as u64)
+            text::put_number(line, at, b": version ", version.number as u64)
         }
         Refusal::FIELD => text::put_binary(
             line,
@@ -264,7 +239,10 @@ pub fn put_answer(
             let at = put_refusal(line, at, number, offset);
             match read {
                 Read::Message(m) => put_cause(line, at, number, session, m, bytes),
-                Read::Refused(_) => put_damage(line, at, number, offset, session.version, bytes),
+                Read::Refused(_) => {
+                    let version = session::version_of(session);
+                    put_damage(line, at, number, offset, version, bytes)
+                }
             }
         }
     }

@@ -2,7 +2,6 @@
 // answers to it; and a summary. A trace is records of the mark C3 4D, a length of 32 bits and a message. The version is the first
 // argument, 2 where there is none. A message that is longer than the buffer's room is passed over.
 ghost use Prim.Native.Nat.{_≤_};
-use message::Version;
 use records::Record;
 use records::Taken;
 use records::Window;
@@ -31,10 +30,7 @@ struct Progress {
 
 // Gives the session a message, and tells the message and the answer.
 fn tell_message(line: &mut [u8], session: Session, bytes: &[u8], index: u64) -> Stepped {
-    let version = Version {
-        number: session.version,
-    };
-    let read = reader::read_message(version, session.phase == Session::BLOCK, bytes);
+    let read = session::read_in(session, bytes);
     let Stepped {
         session: after,
         answer,

@@ -15,7 +15,8 @@ use Rattle.message.specs.Versions.{versionAllows, versionHas}
 use Rattle.message.specs.Messages.{refuse, readKind, readMessage}
 use Rattle.session.specs.declared.Answer.{Answer as Said}
 use Rattle.session.specs.declared.Answer.the-variants as said
-use Rattle.session.specs.Rules.{Given, given, answers}
+use Rattle.session.specs.History.{Given, given}
+use Rattle.session.specs.Rules.{answers, answersBy}
 use Rattle.columns.specs.declared.Position.{Position}
 use Rattle.columns.specs.declared.Started.{Started}
 use Rattle.columns.specs.declared.Started.the-variants as started
@@ -141,5 +142,5 @@ table =
     ∷ []
 
 marked : map (λ (e : Example). ask (e .question)) table ≡ map (λ (e : Example). e .answer) table
-unfolding ask read tagged answers from tupleSteps relationSteps example is table tuplePosition columnField relationField tupleStep relationStep readMessage readKind named versionAllows versionHas valueField columnEnd groupsEnd tupleEnd optional xidField be wordAt numberField letterField member textField untilZero bytesField
+unfolding ask read tagged answersBy from tupleSteps relationSteps example is table tuplePosition columnField relationField tupleStep relationStep readMessage readKind named versionAllows versionHas valueField columnEnd groupsEnd tupleEnd optional xidField be wordAt numberField letterField member textField untilZero bytesField
 marked = refl

@@ -5,6 +5,7 @@ ghost use mathlib.Core.Path.{_≡_};
 ghost use lib.ListN.{length, take};
 use libc::STDOUT_FILENO;
 use session::Answer;
+use session::Stepped;
 
 const ROOM: usize = 524_288;
 
@@ -72,19 +73,7 @@ fn note(index: u64, answer: Answer) -> u64
 
 // Gives every message of a feed to a fresh session, tagged with its index.
 fn give_all(version: u32, trace: &[u8]) -> Counts {
-    let fresh = session::start(version);
-    let mut number = fresh.version;
-    let mut phase = fresh.phase;
-    let mut current_xid = fresh.current_xid;
-    let mut final_lsn = fresh.final_lsn;
-    let mut changed = fresh.changed;
-    let mut stream_xids = fresh.stream_xids;
-    let mut stream_changed = fresh.stream_changed;
-    let mut rows = fresh.rows;
-    let mut keys = fresh.keys;
-    let mut tags = fresh.tags;
-    let mut identities = fresh.identities;
-    let mut columns = fresh.columns;
+    let mut session = session::start(version);
     let mut given: u64 = 0;
     let mut accepted: u64 = 0;
     let mut at: usize = 0;
@@ -95,22 +84,11 @@ fn give_all(version: u32, trace: &[u8]) -> Counts {
             return Counts { given, accepted };
         }
         let start = at + HEAD;
-        let answer = session::step_fields(
-            &mut number,
-            &mut phase,
-            &mut current_xid,
-            &mut final_lsn,
-            &mut changed,
-            &mut stream_xids,
-            &mut stream_changed,
-            &mut rows,
-            &mut keys,
-            &mut tags,
-            &mut identities,
-            &mut columns,
-            &trace[start..end],
-            given,
-        );
+        let Stepped {
+            session: after,
+            answer,
+        } = session::step(session, &trace[start..end], given);
+        session = after;
         accepted += note(given, answer);
         given += 1;
         at = end;

@@ -7,8 +7,8 @@ use native.Mathlib.Omega.{arith}
 use lib.ListN.{length}
 use lib.Dec.{eqb}
 use borrow.Author.Tests.{eq-eqb, ne-eqb, eqb-true, eqb-false}
-use Rattle.catalog.specs.declared.Lookup.the-variants.{Missing}
-use Rattle.catalog.specs.Lists.{any, tally, replaceFirst, change}
+use Rattle.wire.specs.Lists.{any, tally, replaceFirst, change}
+use Rattle.session.specs.History.{unannounced}
 use Rattle.session.specs.FirstFit.{Row, keyIs, isFree, foundIn, lookupIn, freeRow, commonRow, dropped, released, putRow}
 use Rattle.catalog.proofs.Counting.{none-tally, swap-tally}
 use Rattle.catalog.proofs.Firsts.{first-swap-other, first-swap-new, first-swap-same, first-change, tally-change, change-length, swap-length, first-never, tally-never, first-or, tally-or}
@@ -60,10 +60,10 @@ module _ (r : Row) (l : List Row) where
     put-found t o z = go (any mine l) (keyIs t o r) refl refl
       where
         go : (u v : Bool) → any mine l ≡ u → keyIs t o r ≡ v → lookupIn (keyIs t o) (putRow r l) ≡ cond (keyIs t o r) (foundIn r) (lookupIn (keyIs t o) l)
-        go true true e w = let k = own-key t o w in rw (e, w) (rw (← k .0, ← k .1) (first-swap-same foundIn Missing mine r l e mine-is))
-        go true false e w = rw (e, w) (first-swap-other foundIn Missing mine (keyIs t o) r l (λ b m. mine-key t o b m ∙ w) w)
-        go false true e w = let k = own-key t o w in rw (e, w) (rw (← k .0, ← k .1) (first-swap-new foundIn Missing isFree mine r l (free e) e mine-is))
-        go false false e w = rw (e, w) (first-swap-other foundIn Missing isFree (keyIs t o) r l (λ b m. free-key t o b z m) w)
+        go true true e w = let k = own-key t o w in rw (e, w) (rw (← k .0, ← k .1) (first-swap-same foundIn unannounced mine r l e mine-is))
+        go true false e w = rw (e, w) (first-swap-other foundIn unannounced mine (keyIs t o) r l (λ b m. mine-key t o b m ∙ w) w)
+        go false true e w = let k = own-key t o w in rw (e, w) (rw (← k .0, ← k .1) (first-swap-new foundIn unannounced isFree mine r l (free e) e mine-is))
+        go false false e w = rw (e, w) (first-swap-other foundIn unannounced isFree (keyIs t o) r l (λ b m. free-key t o b z m) w)
 
     pub put-table : Table l → Table (putRow r l)
     put-table a = record { room = size (any mine l); once = λ t o z. count t o z (any mine l) (keyIs t o r) refl refl }
@@ -98,7 +98,7 @@ pub record Becomes (f : Row → Row) (t o : ℕ) (was : Row → Bool) : Type 0 w
 
 module _ (f : Row → Row) (t o : ℕ) (l : List Row) where
   becomes-found : (was : Row → Bool) → Becomes f t o was → lookupIn (keyIs t o) (change f l) ≡ lookupIn was l
-  becomes-found was k = first-change foundIn Missing f (keyIs t o) was (k .test) l (k .same)
+  becomes-found was k = first-change foundIn unannounced f (keyIs t o) was (k .test) l (k .same)
 
   becomes-tally : (was : Row → Bool) → Becomes f t o was → tally (keyIs t o) (change f l) ≡ tally was l
   becomes-tally was k = tally-change f (keyIs t o) was (k .test) l
@@ -128,11 +128,11 @@ module _ (x : ℕ) (l : List Row) where
       same b m true w = absurd (false≢true (rw (eqb-true (b .holder) x w, e) at m))
       same b m false w = rw w
 
-  pub drop-found : (t o : ℕ) → (o ≡ 0 → ⊥) → lookupIn (keyIs t o) (change (dropped x) l) ≡ cond (eqb x t) Missing (lookupIn (keyIs t o) l)
+  pub drop-found : (t o : ℕ) → (o ≡ 0 → ⊥) → lookupIn (keyIs t o) (change (dropped x) l) ≡ cond (eqb x t) unannounced (lookupIn (keyIs t o) l)
   drop-found t o z = go (eqb x t) refl
     where
-      go : (v : Bool) → eqb x t ≡ v → lookupIn (keyIs t o) (change (dropped x) l) ≡ cond v Missing (lookupIn (keyIs t o) l)
-      go true e = becomes-found (dropped x) t o l (λ b. false) (gone (dropped x) t o l (drop-own t o z e)) ∙ first-never foundIn Missing l
+      go : (v : Bool) → eqb x t ≡ v → lookupIn (keyIs t o) (change (dropped x) l) ≡ cond v unannounced (lookupIn (keyIs t o) l)
+      go true e = becomes-found (dropped x) t o l (λ b. false) (gone (dropped x) t o l (drop-own t o z e)) ∙ first-never foundIn unannounced l
       go false e = becomes-found (dropped x) t o l (keyIs t o) (drop-other t o z e)
 
   pub drop-table : Table l → Table (change (dropped x) l)
@@ -213,8 +213,8 @@ module _ (x : ℕ) (l : List Row) (nz : x ≡ 0 → ⊥) where
       freed-key b w w' true wk = absurd (true≢false (sym (goes-any b w') ∙ rw (eqb-true (b .oid) o wk) none))
       freed-key b w w' false wk = rw (free-row 0 o z, w, wk, and-false (eqb (b .holder) 0))
 
-  pub release-own : (o : ℕ) → (o ≡ 0 → ⊥) → lookupIn (keyIs x o) (change (released x l) l) ≡ Missing
-  release-own o z = becomes-found (released x l) x o l (λ b. false) (gone (released x l) x o l (own-gone o z)) ∙ first-never foundIn Missing l
+  pub release-own : (o : ℕ) → (o ≡ 0 → ⊥) → lookupIn (keyIs x o) (change (released x l) l) ≡ unannounced
+  release-own o z = becomes-found (released x l) x o l (λ b. false) (gone (released x l) x o l (own-gone o z)) ∙ first-never foundIn unannounced l
 
   pub release-other : (t o : ℕ) → (o ≡ 0 → ⊥) → eqb t 0 ≡ false → eqb x t ≡ false → lookupIn (keyIs t o) (change (released x l) l) ≡ lookupIn (keyIs t o) l
   release-other t o z e0 ex = becomes-found (released x l) t o l (keyIs t o) (other-becomes t o z e0 ex)
@@ -224,7 +224,7 @@ module _ (x : ℕ) (l : List Row) (nz : x ≡ 0 → ⊥) where
 
   pub release-kept : (o : ℕ) → (o ≡ 0 → ⊥) → any (keyIs x o) l ≡ false → lookupIn (keyIs 0 o) (change (released x l) l) ≡ lookupIn (keyIs 0 o) l
   release-kept o z none =
-      becomes-found (released x l) 0 o l (λ b. keyIs 0 o b || keyIs x o b) (kept-becomes o z none) ∙ first-or (keyIs 0 o) (keyIs x o) foundIn Missing l none
+      becomes-found (released x l) 0 o l (λ b. keyIs 0 o b || keyIs x o b) (kept-becomes o z none) ∙ first-or (keyIs 0 o) (keyIs x o) foundIn unannounced l none
 
   pub release-table : Table l → Table (change (released x l) l)
   release-table a = record { room = change-length (released x l) l ∙ a .room; once = λ t o z. count t o z (eqb t 0) (eqb x t) refl refl }

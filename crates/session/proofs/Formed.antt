@@ -1,5 +1,5 @@
--- A message that was read is well formed: no xid that a rule names is 0, and each OID is a number of 32 bits. Assumes nothing.
-use Prim.Native.Nat.{ℕ, zero, suc, _+_, _≤_}
+-- A message that was read is well formed: no xid that a rule names is 0, and the OID of an announcement and the xid of a block are not 0 and numbers of 32 bits. Assumes nothing.
+use Prim.Native.Nat.{ℕ, _+_, _≤_}
 use mathlib.Core.List.{List, [], _∷_}
 use mathlib.Core.Bool.{Bool, true, false, cond, _&&_}
 use mathlib.Core.Path.{_≡_, refl, ap, _∙_}
@@ -11,38 +11,35 @@ use Rattle.wire.specs.declared.Word.the-variants.{Value, Short}
 use Rattle.wire.specs.declared.Cursor.{Cursor}
 use Rattle.wire.specs.declared.Cursor.the-variants.{At, Refused}
 use Rattle.wire.specs.Numbers.{wordAt}
-use Rattle.wire.specs.Fields.{numberField, judged, noNumber, letterField, positionOf}
+use Rattle.wire.specs.Fields.{numberField, judged, noNumber, letterField}
 use Rattle.message.specs.declared.Version.{Version}
 use Rattle.message.specs.declared.Message.{Message}
 use Rattle.message.specs.declared.Read.the-variants as read
-use Rattle.message.specs.Layout.{Part, one, blockXid, groups, tuple, optionalTuple, text, letter, groupsEnd, optional, xidField, readPart, readFields}
-use Rattle.message.specs.Kinds.{Kind, begin, commit, origin, relation, type, insert, update, delete, truncate, message, streamStart, streamStop, streamCommit, streamAbort, layout, id, identity, columns, new, keyOrOld, lsn, time, flags, xid}
+use Rattle.message.specs.Layout.{Part, one, blockXid, groups, tuple, optionalTuple, text, groupsEnd, optional, xidField, readPart, readFields}
+use Rattle.message.specs.Kinds.{Kind, begin, commit, origin, relation, type, insert, update, delete, truncate, message, streamStart, streamStop, streamCommit, streamAbort, layout, identity, columns, lsn, time, flags, xid}
 use Rattle.message.specs.Messages.{messageOf, readMessage}
 use Rattle.message.proofs.Accepted.{reached, accepted}
 use Rattle.catalog.specs.Table.{Small}
 use Rattle.columns.proofs.Stays.{field-stays, group-stays, groups-stay, tuple-stays}
-use Rattle.session.specs.Events.{Event, Begin, Commit, Origin, Relation, Change, Truncate, Neutral, StreamStart, StreamStop, StreamCommit, StreamAbort, oidsAt, eventOf}
+use Rattle.session.specs.Events.{Event, Begin, Commit, Origin, Relation, Change, Truncate, Neutral, Logical, StreamStart, StreamStop, StreamCommit, StreamAbort, eventOf}
 
 abbrev pub NonZero : ℕ → Type 0
 NonZero x = x ≡ 0 → ⊥
 
--- an OID: not 0, of 32 bits
+-- an OID or xid: not 0, of 32 bits
 abbrev pub Id : ℕ → Type 0
 Id o = NonZero o × Small o
-
-abbrev pub AllIds : List ℕ → Type 0
-AllIds [] = Unit {0}
-AllIds (o ∷ os) = Id o × AllIds os
 
 abbrev pub Formed : Event → Type 0
 Formed (Begin l x) = NonZero x
 Formed (Commit l) = Unit {0}
 Formed Origin = Unit {0}
 Formed (Relation o i c) = Id o
-Formed (Change o ts) = Id o
-Formed (Truncate os) = AllIds os
+Formed (Change x o ts) = Unit {0}
+Formed (Truncate x os) = Unit {0}
 Formed Neutral = Unit {0}
-Formed (StreamStart x first) = NonZero x
+Formed (Logical v) = Unit {0}
+Formed (StreamStart x first) = Id x
 Formed StreamStop = Unit {0}
 Formed (StreamCommit x) = NonZero x
 Formed (StreamAbort x sub) = NonZero x
@@ -83,25 +80,12 @@ module _ (b : Bool) (xs : List ℕ) where
   fields-stay n o (p ∷ ps) = ap (λ (c : Cursor). readFields b ps xs c .next) (part-stays n o p) ∙ fields-stay n o ps
 
   -- an id that reading got past
-  id-then : (rest : List Part) (c : Cursor) (e : ℕ) → readFields b rest xs (numberField 4 1 0xFFFF_FFFF 4 xs c .next) .next ≡ At e
+  pub id-then : (rest : List Part) (c : Cursor) (e : ℕ) → readFields b rest xs (numberField 4 1 0xFFFF_FFFF 4 xs c .next) .next ≡ At e
       → NonZero (numberField 4 1 0xFFFF_FFFF 4 xs c .value) × Id (numberField 4 1 0xFFFF_FFFF 4 xs c .value)
   id-then rest c e q =
       let r = reached (λ (d : Cursor). readFields b rest xs d .next) (λ n o. fields-stay n o rest) (numberField 4 1 0xFFFF_FFFF 4 xs c .next) q in
       let k = number-within 4 1 0xFFFF_FFFF 4 xs c (r .1) in
       ((λ z. omega (arith, k .0, z)), ((λ z. omega (arith, k .0, z)), omega (arith, k .1)))
-
-  oids-then : (n : ℕ) (c : Cursor) (e : ℕ) → groupsEnd (id ∷ []) xs n c ≡ At e → AllIds (oidsAt n xs c)
-  unfolding groupsEnd
-  oids-then zero c e q = tt
-  oids-then (suc n) c e q =
-      let d = numberField 4 1 0xFFFF_FFFF 4 xs c .next in
-      let r = reached (groupsEnd (id ∷ []) xs n) (λ k o. groups-stay xs k o (id ∷ []) n) d q in
-      (id-then [] c (r .0) (r .1) .1, oids-then n d e q)
-
-  relations-then : (n : ℕ) (c : Cursor) (e : ℕ) → groupsEnd (id ∷ []) xs n c ≡ At e → AllIds (oidsAt n xs (At (positionOf c)))
-  relations-then n c e q =
-      let r = reached (groupsEnd (id ∷ []) xs n) (λ k o. groups-stay xs k o (id ∷ []) n) c q in
-      rw (r .1) (oids-then n (At (r .0)) e (rw (r .1) at q))
 
   kind-formed : (k : Kind) (e : ℕ) → readFields b (layout k) xs (At 1) .next ≡ At e → Formed (eventOf (messageOf k (readFields b (layout k) xs (At 1) .parts)) xs)
   kind-formed begin e q = id-then [] _ e q .0
@@ -109,12 +93,12 @@ module _ (b : Bool) (xs : List ℕ) where
   kind-formed origin e q = tt
   kind-formed relation e q = id-then (one text ∷ one text ∷ identity ∷ columns ∷ []) _ e q .1
   kind-formed type e q = tt
-  kind-formed insert e q = id-then (new ∷ tuple ∷ []) _ e q .1
-  kind-formed update e q = id-then (optionalTuple keyOrOld ∷ new ∷ tuple ∷ []) _ e q .1
-  kind-formed delete e q = id-then (one (letter keyOrOld) ∷ tuple ∷ []) _ e q .1
-  kind-formed truncate e q = relations-then _ _ e q
+  kind-formed insert e q = tt
+  kind-formed update e q = tt
+  kind-formed delete e q = tt
+  kind-formed truncate e q = tt
   kind-formed message e q = tt
-  kind-formed streamStart e q = id-then (flags 1 ∷ []) _ e q .0
+  kind-formed streamStart e q = id-then (flags 1 ∷ []) _ e q .1
   kind-formed streamStop e q = tt
   kind-formed streamCommit e q = id-then (flags 0 ∷ lsn ∷ lsn ∷ time ∷ []) _ e q .0
   kind-formed streamAbort e q = id-then (xid ∷ []) _ e q .0

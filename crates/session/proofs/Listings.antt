@@ -6,11 +6,12 @@ use native.Mathlib.Numerals.{add-one}
 use borrow.Author.Tests.{le-leb, lt-leb}
 use lib.ListN.{length, take, drop, getD, drop-of-length-le}
 use lib.Seq.{drop-cons}
-use Rattle.catalog.specs.Table.{first, rest}
+use Rattle.wire.specs.Lists.{first, rest}
 use Rattle.session.specs.declared.Answer.{Answer}
 use Rattle.session.specs.declared.Session.{Session}
 use Rattle.session.specs.declared.Stepped.{Stepped}
-use Rattle.session.specs.Machine.{stepOf, run}
+use Rattle.session.specs.Machine.{stepOf}
+use Rattle.session.specs.Runs.{run}
 use Rattle.session.specs.Listed.{between, messagesIn, lastOr}
 
 module _ (start end : ℕ) (xs : List ℕ) where

@@ -7,27 +7,26 @@ use native.Mathlib.Omega.{arith}
 use Rattle.wire.specs.declared.Cursor.{Cursor}
 use Rattle.wire.specs.declared.Field32.{Field32}
 use Rattle.wire.specs.Fields.{numberField, narrow32}
-use Rattle.catalog.specs.declared.Lookup.{Lookup}
-use Rattle.catalog.specs.declared.Lookup.the-variants.{Missing}
 use Rattle.session.specs.Events.{oidsAt}
-use Rattle.session.specs.Rules.{isFound, allSeen, firstSeen}
+use Rattle.session.specs.History.{Announced, unannounced, isAnnounced}
+use Rattle.session.specs.Rules.{allSeen, firstSeen}
 use Rattle.session.proofs.Tests.{not-true, not-false}
 
-module _ (see : ℕ → Lookup) (xs : List ℕ) (c : Cursor) where
+module _ (see : ℕ → Announced) (xs : List ℕ) (c : Cursor) where
   -- none
-  pub first-none : (n : ℕ) → n ≡ 0 → Missing ≡ firstSeen see (oidsAt n xs c)
+  pub first-none : (n : ℕ) → n ≡ 0 → unannounced ≡ firstSeen see (oidsAt n xs c)
   first-none n h = rw h
 
   pub seen-done : (n : ℕ) {whole : Bool} → n ≤ 0 → allSeen see (oidsAt n xs c) ≡ whole → true ≡ whole
   seen-done n h inv = let z : n ≡ 0 = omega arith in rw z at inv
 
   -- one that was read, and what it sees
-  module _ (f : Field32) (e : f ≡ narrow32 (numberField 4 1 0xFFFF_FFFF 4 xs c)) (l : Lookup) (q : l ≡ see (f .value)) where
+  module _ (f : Field32) (e : f ≡ narrow32 (numberField 4 1 0xFFFF_FFFF 4 xs c)) (l : Announced) (q : l ≡ see (f .value)) where
     pub first-some : (n : ℕ) → (n ≡ 0 → ⊥) → l ≡ firstSeen see (oidsAt n xs c)
     first-some zero h = absurd (h refl)
     first-some (suc n) h = rw (q, e)
 
-    module _ (b : Bool) (k : b ≡ isFound l) where
+    module _ (b : Bool) (k : b ≡ isAnnounced l) where
       more : (n : ℕ) → 0 < n → allSeen see (oidsAt n xs c) ≡ b && allSeen see (oidsAt (n - 1) xs (f .next))
       more zero h = absurd (omega arith)
       more (suc n) h = let s : suc n - 1 ≡ n = omega arith in rw (k, q, e, s)

@@ -1,85 +1,162 @@
 -- A session whose record agrees with history answers every list of messages as the rules say. Assumes nothing.
-use mathlib.Core.Path.{_≡_, refl, _∙_, ap}
+use mathlib.Core.Path.{_≡_, refl, _∙_, ap, ap₂}
 use mathlib.Core.List.{List, [], _∷_}
 use mathlib.Core.Bool.{Bool, true, false, cond, not}
-use Prim.Native.Nat.{ℕ}
+use Prim.Native.Nat.{ℕ, _%_, _≤_}
+use native.Mathlib.Omega.{arith}
 use lib.Dec.{eqb}
+use lib.ListN.{getD}
+use Rattle.catalog.specs.Table.{Small}
 use Rattle.message.specs.declared.Version.{Version}
 use Rattle.message.specs.declared.Message.{Message}
 use Rattle.message.specs.declared.Read.{Read}
 use Rattle.message.specs.declared.Read.the-variants as read
 use Rattle.message.specs.Messages.{readMessage}
-use Rattle.catalog.specs.Table.{over}
-use Rattle.catalog.proofs.Columns.{rows-each}
-use Rattle.catalog.proofs.Over.{over-take}
-use Rattle.catalog.proofs.StreamLaws.{streams-each}
 use Rattle.session.specs.declared.Place.{Place}
 use Rattle.session.specs.declared.Place.the-variants.{Idle, Transaction, Block}
 use Rattle.session.specs.declared.Answer.{Answer}
 use Rattle.session.specs.declared.Session.{Session}
-use Rattle.session.specs.Events.{Event, eventOf}
-use Rattle.session.specs.Rules.{History, entry, place, inBlock, judge, accepts, answerTo, historyAfter, Given, given, answers}
-use Rattle.session.specs.State.{State, Layout, StateOf, answerRead, stateRead, stateNext, runBy, sorted, stateAfter}
-use Rattle.session.specs.Machine.{versionIn, placeOf, phaseOf, currentOf, lsnOf, tableOf, view, written, readStep, stepOf, run}
+use Rattle.session.specs.declared.Stepped.{Stepped}
+use Rattle.session.specs.Events.{Event, Begin, Commit, Origin, Relation, Change, Truncate, Neutral, Logical, StreamStart, StreamStop, StreamCommit, StreamAbort, eventOf}
+use Rattle.session.specs.History.{History, entry, place, placeAfter, inBlock, Given, given}
+use Rattle.session.specs.Rules.{rooms, judge, accepts, Heard, heardOf, hears, answerTo, historyAfter, answersBy, historyBy, answers, past}
+use Rattle.session.specs.State.{Layout, StateOf, State, sorted, stateAfter, stateBy}
+use Rattle.session.specs.Machine.{versionIn, placeOf, phaseOf, currentOf, lsnOf, Parts, view, written, partsOf, made, heardStep, stepOf}
+use Rattle.session.specs.Runs.{run, after}
+use Rattle.session.specs.Layouts.{answerHeard, stateHeard, runBy}
 use Rattle.session.proofs.Formed.{Formed, read-formed}
-use Rattle.session.proofs.Lawful.{Lawful}
-use Rattle.session.proofs.Sorted.{sorted-lawful}
-use Rattle.session.proofs.Agreement.{Agrees, same-answer, kept}
+use Rattle.session.proofs.Lawful.{Lawful, sorted-lawful, sorted-sound}
+use Rattle.session.proofs.Agreement as agreement
+use Rattle.session.proofs.Agreement.{same-answer, kept}
 
-place-again : (p : Place) (current lsn : ℕ) → placeOf (phaseOf p) (currentOf p current) (lsnOf p lsn) ≡ p
-place-again Idle current lsn = refl
-place-again (Transaction l) current lsn = refl
-place-again (Block x) current lsn = refl
+-- the session's record
+abbrev pub Agrees : State → History → Type 0
+Agrees s h = agreement.Agrees sorted sorted-lawful s h
 
-bit-again : (b : Bool) → not (eqb (cond b 1 0) 0) ≡ b
+-- THE WORDS of a head give back what they were made of
+
+-- an xid that has its place in a word
+abbrev Fits : Place → Type 0
+Fits Idle = Unit {0}
+Fits (Transaction l) = Unit {0}
+Fits (Block x) = Small x
+
+place-again : (p : Place) (current lsn : ℕ) → Fits p → placeOf (phaseOf p % 4294967296) (currentOf p current % 4294967296) (lsnOf p lsn) ≡ p
+place-again Idle current lsn f = refl
+place-again (Transaction l) current lsn f = refl
+place-again (Block x) current lsn f = ap Block (omega arith)
+
+bit-again : (b : Bool) → not (eqb (cond b 1 0 % 65536) 0) ≡ b
 bit-again true = refl
 bit-again false = refl
 
 -- what is written is what the record then says
-pub view-written : (s : Session) (n : State) → view (written s n) ≡ n
-view-written s n = rw (place-again (n .place) (s .«current_xid») (s .«final_lsn»), bit-again (n .changed), streams-each (n .streams), rows-each (over (n .rows) (tableOf s)), over-take (n .rows) (tableOf s))
+view-written : (v : ℕ) (p : Parts) (n : State) → Fits (n .place) → n .table .count ≤ 256 → view (partsOf (made v (written p n))) ≡ n
+view-written v p n f few =
+    let e : n .table .count % 65536 ≡ n .table .count = omega arith in
+    rw (place-again (n .place) (p .head .«current_xid») (p .head .«final_lsn») f, bit-again (n .changed), e)
 
-pub agree-run : (l : List Given) (s : Session) (h : History) → Agrees sorted sorted-lawful (view s) h → run s l ≡ answers (versionIn s) h l
-unfolding run answers stepOf
+-- every record stands where its words can say it, and so does the next
+place-fits : (phase current lsn : ℕ) → Fits (placeOf phase (current % 4294967296) lsn)
+place-fits phase current lsn = go (eqb phase 1) (eqb phase 2)
+  where
+    go : (u v : Bool) → Fits (cond u (Transaction lsn) (cond v (Block (current % 4294967296)) Idle))
+    go true v = tt
+    go false true = omega arith
+    go false false = tt
+
+fits-after : (e : Event) (p : Place) → Formed e → Fits p → Fits (placeAfter e p)
+fits-after (Begin l x) p f w = tt
+fits-after (Commit l) p f w = tt
+fits-after Origin p f w = w
+fits-after (Relation o i c) p f w = w
+fits-after (Change x o ts) p f w = w
+fits-after (Truncate x os) p f w = w
+fits-after Neutral p f w = w
+fits-after (Logical v) p f w = w
+fits-after (StreamStart x first) p f w = f .1
+fits-after StreamStop p f w = tt
+fits-after (StreamCommit x) p f w = w
+fits-after (StreamAbort x sub) p f w = w
+
+-- ONE STEP: its answer is the rules', and the record then agrees with the history after it
+abbrev pub says : Session → State
+says s = view (partsOf s)
+
+abbrev pub versionFor : Session → Version
+versionFor s = versionIn (partsOf s .head)
+
+module _ (s : Session) (h : History) (a : Agrees (says s) h) (xs : List ℕ) (g : ℕ) where
+  abbrev Follows : Stepped → Heard → Type 0
+  Follows n r = (n .answer ≡ answerTo rooms h r) × Agrees (says (n .session)) (historyAfter rooms h r (given xs g)) × (versionFor (n .session) ≡ versionFor s)
+
+  abbrev after-event : Event → Session
+  after-event e = made (getD (s .head) 1 0) (written (partsOf s) (stateAfter (says s) e g))
+
+  judged : (e : Event) → Formed e → (v : Bool) → accepts (judge rooms h e) ≡ v
+      → Agrees (says (cond v (after-event e) s)) (cond v (entry e (given xs g) ∷ h) h) × (versionFor (cond v (after-event e) s) ≡ versionFor s)
+  judged e f true ok =
+      let k = kept sorted sorted-lawful (says s) h a e (given xs g) f ok in
+      let w = fits-after e (says s .place) f (place-fits (partsOf s .head .phase) (getD (s .head) 2 0) (getD (s .head) 0 0)) in (
+        rw (view-written (getD (s .head) 1 0) (partsOf s) (stateAfter (says s) e g) w (sorted-sound (stateAfter (says s) e g .table) (k .table .sound) .few)) k,
+        refl,
+      )
+  judged e f false ok = (a, refl)
+
+  read-follows : (r : Read) → ((m : Message) → r ≡ read.Message m → Formed (eventOf m xs)) → Follows (heardStep s (heardOf r xs) g) (heardOf r xs)
+  read-follows (read.Refused k) f = (refl, a, refl)
+  read-follows (read.Message m) f =
+      let k = judged (eventOf m xs) (f m refl) (accepts (judge rooms h (eventOf m xs))) refl in
+      rw (same-answer sorted sorted-lawful (says s) h a (eventOf m xs)) (refl, k .0, k .1)
+
+  pub step-follows : Follows (stepOf s xs g) (hears (versionFor s) (place h) xs)
+  unfolding stepOf
+  step-follows = go (says s .place) (a .at)
+    where
+      go : (p : Place) → p ≡ place h → Follows (heardStep s (hears (versionFor s) p xs) g) (hears (versionFor s) (place h) xs)
+      go p e = rw e (read-follows (readMessage (versionFor s) (inBlock (place h)) xs) (λ m q. read-formed (inBlock (place h)) xs (versionFor s) m q))
+
+-- A LIST
+pub agree-run : (l : List Given) (s : Session) (h : History) → Agrees (says s) h → run s l ≡ answers (versionFor s) h l
+unfolding run answersBy
 agree-run [] s h a = refl
 agree-run (given xs g ∷ l) s h a =
-    ap (λ (b : Bool). stepped (readMessage (versionIn s) b xs)) (ap inBlock (a .at))
-    ∙ one (readMessage (versionIn s) (inBlock (place h)) xs) (λ m q. read-formed (inBlock (place h)) xs (versionIn s) m q) (agree-run l)
-  where
-    stepped : Read → List Answer
-    stepped r = readStep s r xs g .answer ∷ run (readStep s r xs g .session) l
+    let k = step-follows s h a xs g in
+    let n = historyAfter rooms h (hears (versionFor s) (place h) xs) (given xs g) in
+    ap₂ (λ (x : Answer) (t : List Answer). x ∷ t) (k .0) (agree-run l (stepOf s xs g .session) n (k .1) ∙ ap (λ (v : Version). answers v n l) (k .2))
 
-    judged : (e : Event) → Formed e → ((s : Session) (h : History) → Agrees sorted sorted-lawful (view s) h → run s l ≡ answers (versionIn s) h l) → (v : Bool) → accepts (judge h e) ≡ v
-        → run (cond v (written s (stateAfter (view s) e g)) s) l ≡ answers (versionIn s) (cond v (entry e g ∷ h) h) l
-    judged e f r true ok = r (written s (stateAfter (view s) e g)) (entry e g ∷ h) (rw (view-written s (stateAfter (view s) e g)) (kept sorted sorted-lawful (view s) h a e g f ok))
-    judged e f r false ok = r s h a
+moved : (s : Session) (h : History) (l : List Given) (v w : Version) → v ≡ w → Agrees (says s) (past v h l) → Agrees (says s) (past w h l)
+moved s h l v w e k = rw (← e) k
 
-    one : (r : Read) → ((m : Message) → r ≡ read.Message m → Formed (eventOf m xs)) → ((s : Session) (h : History) → Agrees sorted sorted-lawful (view s) h → run s l ≡ answers (versionIn s) h l)
-        → stepped r ≡ answerTo h r xs ∷ answers (versionIn s) (historyAfter h r xs g) l
-    one (read.Refused k) f r = ap (λ (t : List Answer). answerTo h (read.Refused k) xs ∷ t) (r s h a)
-    one (read.Message m) f r =
-        rw (same-answer sorted sorted-lawful (view s) h a (eventOf m xs) (f m refl))
-        (ap (λ (t : List Answer). judge h (eventOf m xs) ∷ t) (judged (eventOf m xs) (f m refl) r (accepts (judge h (eventOf m xs))) refl))
+pub agree-after : (l : List Given) (s : Session) (h : History) → Agrees (says s) h → Agrees (says (after s l)) (past (versionFor s) h l)
+unfolding after historyBy
+agree-after [] s h a = a
+agree-after (given xs g ∷ l) s h a =
+    let k = step-follows s h a xs g in
+    let n = historyAfter rooms h (hears (versionFor s) (place h) xs) (given xs g) in
+    moved (after (stepOf s xs g .session) l) n l (versionFor (stepOf s xs g .session)) (versionFor s) (k .2) (agree-after l (stepOf s xs g .session) n (k .1))
 
--- whatever the layout, as long as it has the laws
-pub layout-run : (L : Layout) (w : Lawful L) (v : Version) (l : List Given) (s : StateOf (L .Rows)) (h : History) → Agrees L w s h → runBy L v s l ≡ answers v h l
-unfolding runBy answers
-layout-run L w v [] s h a = refl
-layout-run L w v (given xs g ∷ l) s h a =
-    ap (λ (b : Bool). after (readMessage v b xs)) (ap inBlock (a .at))
-    ∙ one (readMessage v (inBlock (place h)) xs) (λ m q. read-formed (inBlock (place h)) xs v m q) (layout-run L w v l)
-  where
-    after : Read → List Answer
-    after r = answerRead L s r xs ∷ runBy L v (stateRead L s r xs g) l
+-- WHATEVER THE LAYOUT, as long as it has the laws
+module _ (L : Layout) (laws : Lawful L) where
+  module _ (s : StateOf (L .Rows)) (h : History) (a : agreement.Agrees L laws s h) (xs : List ℕ) (g : ℕ) where
+    abbrev FollowsBy : Heard → Type 0
+    FollowsBy r = (answerHeard L s r ≡ answerTo rooms h r) × agreement.Agrees L laws (stateHeard L s r g) (historyAfter rooms h r (given xs g))
 
-    judged : (e : Event) → Formed e → ((s : StateOf (L .Rows)) (h : History) → Agrees L w s h → runBy L v s l ≡ answers v h l) → (b : Bool) → accepts (judge h e) ≡ b
-        → runBy L v (cond b (stateNext L s e g) s) l ≡ answers v (cond b (entry e g ∷ h) h) l
-    judged e f r true ok = r (stateNext L s e g) (entry e g ∷ h) (kept L w s h a e g f ok)
-    judged e f r false ok = r s h a
+    judged-by : (e : Event) → Formed e → (v : Bool) → accepts (judge rooms h e) ≡ v → agreement.Agrees L laws (cond v (stateBy L s e g) s) (cond v (entry e (given xs g) ∷ h) h)
+    judged-by e f true ok = kept L laws s h a e (given xs g) f ok
+    judged-by e f false ok = a
 
-    one : (r : Read) → ((m : Message) → r ≡ read.Message m → Formed (eventOf m xs)) → ((s : StateOf (L .Rows)) (h : History) → Agrees L w s h → runBy L v s l ≡ answers v h l)
-        → after r ≡ answerTo h r xs ∷ answers v (historyAfter h r xs g) l
-    one (read.Refused k) f r = ap (λ (t : List Answer). answerTo h (read.Refused k) xs ∷ t) (r s h a)
-    one (read.Message m) f r =
-        rw (same-answer L w s h a (eventOf m xs) (f m refl))
-        (ap (λ (t : List Answer). judge h (eventOf m xs) ∷ t) (judged (eventOf m xs) (f m refl) r (accepts (judge h (eventOf m xs))) refl))
+    read-by : (r : Read) → ((m : Message) → r ≡ read.Message m → Formed (eventOf m xs)) → FollowsBy (heardOf r xs)
+    read-by (read.Refused k) f = (refl, a)
+    read-by (read.Message m) f = rw (same-answer L laws s h a (eventOf m xs)) (refl, judged-by (eventOf m xs) (f m refl) (accepts (judge rooms h (eventOf m xs))) refl)
+
+    step-by : (v : Version) → FollowsBy (hears v (place h) xs)
+    step-by v = read-by (readMessage v (inBlock (place h)) xs) (λ m q. read-formed (inBlock (place h)) xs v m q)
+
+  pub layout-run : (v : Version) (l : List Given) (s : StateOf (L .Rows)) (h : History) → agreement.Agrees L laws s h → runBy L v s l ≡ answers v h l
+  unfolding runBy answersBy
+  layout-run v [] s h a = refl
+  layout-run v (given xs g ∷ l) s h a =
+      ap (λ (p : Place). answerHeard L s (hears v p xs) ∷ runBy L v (stateHeard L s (hears v p xs) g) l) (a .at)
+      ∙ ap₂ (λ (x : Answer) (t : List Answer). x ∷ t) (step-by s h a xs g v .0)
+      (layout-run v l (stateHeard L s (hears v (place h) xs) g) (historyAfter rooms h (hears v (place h) xs) (given xs g)) (step-by s h a xs g v .1))

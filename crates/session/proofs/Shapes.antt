@@ -4,6 +4,7 @@ use mathlib.Core.Bool.{Bool, true, false, not}
 use mathlib.Core.Path.{_≡_, _∙_}
 use lib.Dec.{eqb}
 use borrow.Author.Tests.{eq-eqb, ne-eqb}
+use Rattle.session.specs.declared.Tuples.{Tuples}
 use Rattle.session.specs.Events.{tuple}
 use Rattle.session.specs.Rules.{fits, allFit}
 use Rattle.session.specs.Acts.{tuplesOf}
@@ -24,12 +25,13 @@ module _ (identity columns letter count : ℕ) where
   other-fits h o k = rw (eq-eqb count columns h, ne-eqb letter 0x4F o, ne-eqb letter 0x4B k)
 
 -- a new tuple, that fits or not, and an old one
-module _ (identity columns old oldCount letter count : ℕ) (fit : Bool) (q : fit ≡ fits identity columns (tuple letter count)) where
-  pub new-only : old ≡ 0 → fit ≡ allFit identity columns (tuplesOf old oldCount letter count)
-  new-only h = rw (eq-eqb old 0 h) (q ∙ and-true (fits identity columns (tuple letter count)))
+module _ (identity columns : ℕ) (t : Tuples) (fit : Bool) (q : fit ≡ fits identity columns (tuple (t .letter) (t .count))) where
+  pub new-only : t .old ≡ 0 → fit ≡ allFit identity columns (tuplesOf t)
+  new-only h = rw (eq-eqb (t .old) 0 h) (q ∙ and-true (fits identity columns (tuple (t .letter) (t .count))))
 
-  pub both-fit : (old ≡ 0 → ⊥) → fits identity columns (tuple old oldCount) ≡ true → fit ≡ allFit identity columns (tuplesOf old oldCount letter count)
-  both-fit h e = rw (ne-eqb old 0 h, e) (q ∙ and-true (fits identity columns (tuple letter count)))
+  module _ (h : t .old ≡ 0 → ⊥) where
+    pub both-fit : fits identity columns (tuple (t .old) (t .«old_count»)) ≡ true → fit ≡ allFit identity columns (tuplesOf t)
+    both-fit e = rw (ne-eqb (t .old) 0 h, e) (q ∙ and-true (fits identity columns (tuple (t .letter) (t .count))))
 
-  pub old-differs : (old ≡ 0 → ⊥) → fits identity columns (tuple old oldCount) ≡ false → false ≡ allFit identity columns (tuplesOf old oldCount letter count)
-  old-differs h e = rw (ne-eqb old 0 h, e)
+    pub old-differs : fits identity columns (tuple (t .old) (t .«old_count»)) ≡ false → false ≡ allFit identity columns (tuplesOf t)
+    old-differs e = rw (ne-eqb (t .old) 0 h, e)

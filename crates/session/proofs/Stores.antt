@@ -1,85 +1,117 @@
 -- What a step's parts did, put together: the record that a step leaves and the answer that it gives. Assumes nothing.
-use Prim.Native.Nat.{ℕ}
+use Prim.Native.Nat.{ℕ, _%_}
 use mathlib.Core.List.{List}
-use mathlib.Core.Bool.{Bool, true, false, cond, not}
+use mathlib.Core.Bool.{Bool, true, false, cond}
 use mathlib.Core.Path.{_≡_, sym, _∙_, ap}
-use lib.Dec.{eqb}
-use lib.ListN.{length, take}
-use Rattle.wire.specs.declared.Refusal.{Refusal}
-use Rattle.message.specs.declared.Message.{Message}
+use lib.ListN.{getD}
 use Rattle.message.specs.declared.Read.{Read}
-use Rattle.message.specs.declared.Read.the-variants as read
 use Rattle.message.specs.Messages.{readMessage}
-use Rattle.catalog.specs.Table.{rowsOf, streamsOf, Sized, over}
-use Rattle.catalog.proofs.Columns.{keys-of, tags-of, identities-of, columns-of}
-use Rattle.catalog.proofs.StreamLaws.{xids-of, marks-of}
+use Rattle.catalog.specs.Opens.{Streams, streams}
+use Rattle.catalog.specs.Tables.{Table, table}
 use Rattle.session.specs.declared.Place.{Place}
 use Rattle.session.specs.declared.Answer.{Answer}
 use Rattle.session.specs.declared.Answer.the-variants as answer
+use Rattle.session.specs.declared.Head.{Head}
+use Rattle.session.specs.declared.Looked.{Looked}
+use Rattle.session.specs.declared.Looked.the-variants as looked
+use Rattle.session.specs.declared.Act.{Act}
+use Rattle.session.specs.declared.Tuples.{Tuples}
 use Rattle.session.specs.declared.Session.{Session}
 use Rattle.session.specs.declared.Stepped.{Stepped}
-use Rattle.session.specs.Events.{Event, eventOf}
-use Rattle.session.specs.Rules.{accepts, inBlock, placeAfter}
-use Rattle.session.specs.State.{answerIn, answerFor, stateAt, flagAfter, streamsAfter, rowsAfter, stateAfter}
-use Rattle.session.specs.Machine.{made, versionIn, placeOf, phaseOf, currentOf, lsnOf, tableOf, view, written, stepped, eventStep, readStep, stepOf}
+use Rattle.session.specs.Events.{Event, Change, Tuple}
+use Rattle.session.specs.History.{inBlock, placeAfter}
+use Rattle.session.specs.Rules.{ruleChange, accepts, Heard, heardOf, hears}
+use Rattle.session.specs.State.{State, state, visibleIn, answerIn, flaggedAt, flagAfter, markedAt, streamsAfter, tableAfter, stateAfter}
+use Rattle.session.specs.Machine.{placeIn, flagIn, versionIn, headAt, Parts, parts, streamsOf, tableOf, view, written, sessionOf, headIn, wordsOf, partsOf, made, stepped, eventStep, heardStep, stepOf}
+use Rattle.session.specs.Acts.{tuplesOf, eventIn, heardIn}
 
--- the numbers that each part of the stores left are the record that is written
-module _ (s : Session) (e : Event) (g : ℕ) (place : Place) (flag : Bool)
-    (phase current lsn changed : ℕ) (xids marks : List ℕ) (rows : ℕ) (keys tags identities columns : List ℕ) (mark : Bool) (next : Place)
-    (es : streamsOf xids marks ≡ streamsAfter e place (streamsOf (s .«stream_xids») (s .«stream_changed»)))
-    (er : (rows ≡ length (rowsAfter e g place (take (s .rows) (tableOf s)))) × (rowsOf keys tags identities columns ≡ over (rowsAfter e g place (take (s .rows) (tableOf s))) (tableOf s)))
-    (em : mark ≡ flagAfter e place flag)
-    (en : next ≡ placeAfter e place)
-    (ec : changed ≡ cond mark 1 0)
-    (ez : (phase ≡ phaseOf next) × (current ≡ currentOf next (s .«current_xid»)) × (lsn ≡ lsnOf next (s .«final_lsn»)))
-    (k : (length xids ≡ 16) × (length marks ≡ 16))
-    (z : Sized keys tags identities columns) where
-  pub stored :
-      made (s .version) phase current lsn changed xids marks rows keys tags identities columns
-      ≡ written s (stateAt place flag (streamsOf (s .«stream_xids») (s .«stream_changed»)) (take (s .rows) (tableOf s)) e g)
-  stored =
-      rw (ez .0, ez .1, ez .2, ec, em, en)
-      (rw (
-        ← es,
-        xids-of xids marks,
-        marks-of xids marks (k .1 ∙ sym (k .0)),
-        er .0,
-        ← er .1,
-        keys-of keys tags identities columns z,
-        tags-of keys tags identities columns z,
-        identities-of keys tags identities columns z,
-        columns-of keys tags identities columns z,
-      ))
+-- LOOK
+pub looked-is : (h : Head) (xs : List ℕ) (place : Place) (b : Bool) (r : Read) → place ≡ placeIn h → b ≡ inBlock place → r ≡ readMessage (versionIn h) b xs
+    → (n : Heard) → n ≡ heardOf r xs → n ≡ hears (versionIn h) (placeIn h) xs
+looked-is h xs place b r ep eb er n e = e ∙ ap (λ (x : Read). heardOf x xs) (er ∙ ap (λ (v : Bool). readMessage (versionIn h) v xs) (eb ∙ ap inBlock ep))
 
--- a message that was read, judged
-module _ (s : Session) (e : Event) (g : ℕ) (place : Place) (flag : Bool) (a : Answer)
-    (ep : place ≡ placeOf (s .phase) (s .«current_xid») (s .«final_lsn»))
-    (ef : flag ≡ not (eqb (s .changed) 0))
-    (ea : a ≡ answerFor place flag (streamsOf (s .«stream_xids») (s .«stream_changed»)) (take (s .rows) (tableOf s)) e) where
-  said : a ≡ answerIn (view s) e
-  said = rw (ep, ef) at ea
+-- JUDGE: a change, by where the head stands
+pub change-judged : (h : Head) (t : Table) (o : ℕ) (ts : List Tuple) (p q : Place) → p ≡ placeIn h → p ≡ q
+    → (r : Answer) → r ≡ ruleChange q (visibleIn q t o) ts → r ≡ ruleChange (placeIn h) (visibleIn (placeIn h) t o) ts
+change-judged h t o ts p q ep e r k = k ∙ ap (λ (x : Place). ruleChange x (visibleIn x t o) ts) (sym e ∙ ep)
 
-  step-is : (b : Bool) → accepts a ≡ b → stepped (cond b (written s (stateAfter (view s) e g)) s) a ≡ eventStep s e g
-  step-is b w = ap (λ (v : Bool). stepped (cond v (written s (stateAfter (view s) e g)) s) a) (sym w) ∙ ap (λ (x : Answer). stepped (cond (accepts x) (written s (stateAfter (view s) e g)) s) x) said
+-- APPLY
 
-  pub refused : accepts a ≡ false → stepped s a ≡ eventStep s e g
-  refused w = step-is false w
+-- a head that stands where it stood, and the table of as many rows as it says
+module _ (h r : Head) (p : Place) (b : Bool) (n : ℕ) (e : r ≡ headAt h p b n) where
+  rows-are : r .rows ≡ n
+  rows-are = ap (λ (x : Head). x .rows) e
 
-  pub accepted :
-      accepts a ≡ true → (n : Session)
-      → n ≡ written s (stateAt place flag (streamsOf (s .«stream_xids») (s .«stream_changed»)) (take (s .rows) (tableOf s)) e g)
-      → stepped n a ≡ eventStep s e g
-  accepted w n q = ap (λ (x : Session). stepped x a) (rw (ep, ef) at q) ∙ step-is true w
+  pub headed : p ≡ placeIn h → b ≡ flagIn h → r ≡ headAt h (placeIn h) (flagIn h) (r .rows)
+  headed ep eb = let er : n ≡ r .rows = sym rows-are in e ∙ rw (ep, eb, er)
 
--- bytes, read
-module _ (s : Session) (xs : List ℕ) (g : ℕ) (place : Place) (b : Bool) (r : Read)
-    (ep : place ≡ placeOf (s .phase) (s .«current_xid») (s .«final_lsn»)) (eb : b ≡ inBlock place) (er : r ≡ readMessage (versionIn s) b xs) where
-  read-is : readStep s r xs g ≡ stepOf s xs g
+  pub tabled : (keys tags identities columns : List ℕ) (t : Table) → table n keys tags identities columns ≡ t → table (r .rows) keys tags identities columns ≡ t
+  tabled keys tags identities columns t k = ap (λ (x : ℕ). table x keys tags identities columns) rows-are ∙ k
+
+-- a change, by where the head stands
+pub change-applied : (h : Head) (s : Streams) (p q : Place) (f : Bool) → p ≡ placeIn h → f ≡ flagIn h → p ≡ q
+    → (r : Head) (n : Streams) → r ≡ headAt h p (flaggedAt q f) (h .rows) → n ≡ markedAt q s
+    → (r ≡ headAt h (placeIn h) (flaggedAt (placeIn h) (flagIn h)) (h .rows)) × (n ≡ markedAt (placeIn h) s)
+change-applied h s p q f ep ef e r n k l = let eq : q ≡ placeIn h = sym e ∙ ep in (k ∙ rw (ep, ef, eq), l ∙ rw eq)
+
+-- a head, streams and a table make the record that says them
+pub stored : (s : Parts) (n : State) (r : Head) (m : ℕ) (xids marks keys tags identities columns : List ℕ) → r ≡ headAt (s .head) (n .place) (n .changed) m
+    → streams xids marks ≡ n .streams → table m keys tags identities columns ≡ n .table → parts r xids marks keys tags identities columns ≡ written s n
+stored s n r m xids marks keys tags identities columns eh es et = rw (← es, ← et) (ap (λ (h : Head). parts h xids marks keys tags identities columns) eh)
+
+-- A MESSAGE OF ANOTHER KIND, by where the head stands and whether it has a change
+module _ (s : Parts) (xs : List ℕ) (a b : Act) (e : a ≡ b) (p : Place) (f : Bool) (ep : p ≡ placeIn (s .head)) (ef : f ≡ flagIn (s .head)) where
+  abbrev here : State
+  here = state p f (streamsOf s) (tableOf s)
+
+  pub judged : (r : Answer) → r ≡ answerIn here (eventIn b xs) → r ≡ answerIn (view s) (eventIn a xs)
+  judged r k = k ∙ rw (ep, ef, e)
+
+  pub applied : (g : ℕ) (r : Head) (m : ℕ) (xids marks keys tags identities columns : List ℕ)
+      → r ≡ headAt (s .head) (placeAfter (eventIn b xs) p) (flagAfter (eventIn b xs) p f) m → streams xids marks ≡ streamsAfter (eventIn b xs) p (streamsOf s)
+      → table m keys tags identities columns ≡ tableAfter (eventIn b xs) g p (tableOf s)
+      → parts r xids marks keys tags identities columns ≡ written s (stateAfter (view s) (eventIn a xs) g)
+  applied g r m xids marks keys tags identities columns eh es et =
+      stored s (stateAfter here (eventIn b xs) g) r m xids marks keys tags identities columns eh es et ∙ rw (ep, ef, e)
+
+-- AN EVENT, by the head that the words give
+abbrev under : Head → Session → Parts
+under h s = parts h (s .«stream_xids») (s .«stream_changed») (s .keys) (s .tags) (s .identities) (s .columns)
+
+module _ (s : Session) (h : Head) (eh : h ≡ headIn (s .head)) (e : Event) (g : ℕ) (a : Answer) (ea : a ≡ answerIn (view (under h s)) e) where
+  abbrev next : Session
+  next = made (getD (s .head) 1 0) (written (partsOf s) (stateAfter (view (partsOf s)) e g))
+
+  said : (b : Bool) → accepts a ≡ b → stepped (cond b next s) a ≡ eventStep s e g
+  said b w =
+      ap (λ (v : Bool). stepped (cond v next s) a) (sym w)
+      ∙ ap (λ (x : Answer). stepped (cond (accepts x) next s) x) (ea ∙ ap (λ (x : Head). answerIn (view (under x s)) e) eh)
+
+  pub refused-event : accepts a ≡ false → stepped s a ≡ eventStep s e g
+  refused-event w = said false w
+
+  -- the words of the new head, and the new arrays
+  pub accepted-event : accepts a ≡ true → (n : Head) (ws xids marks keys tags identities columns : List ℕ) → ws ≡ wordsOf (getD (s .head) 1 0) n
+      → parts n xids marks keys tags identities columns ≡ written (under h s) (stateAfter (view (under h s)) e g)
+      → stepped (sessionOf ws xids marks keys tags identities columns) a ≡ eventStep s e g
+  accepted-event w n ws xids marks keys tags identities columns ew q =
+      ap (λ (x : List ℕ). stepped (sessionOf x xids marks keys tags identities columns) a) ew
+      ∙ ap (λ (p : Parts). stepped (made (getD (s .head) 1 0) p) a) (q ∙ ap (λ (x : Head). written (under x s) (stateAfter (view (under x s)) e g)) eh) ∙ said true w
+
+-- A STEP
+module _ (s : Session) (xs : List ℕ) (g : ℕ) (h : Head) (eh : h ≡ headIn (s .head)) (l : Looked) (el : heardIn l xs ≡ hears (versionIn h) (placeIn h) xs) where
+  step-is : heardStep s (heardIn l xs) g ≡ stepOf s xs g
   unfolding stepOf
-  read-is = ap (λ (x : Read). readStep s x xs g) (er ∙ ap (λ (v : Bool). readMessage (versionIn s) v xs) (eb ∙ ap inBlock ep))
+  step-is = ap (λ (x : Heard). heardStep s x g) (el ∙ ap (λ (x : Head). hears (versionIn x) (placeIn x) xs) eh)
 
-  pub unread : (k : Refusal) → r ≡ read.Refused k → stepped s (answer.Refused (k .number) (k .offset)) ≡ stepOf s xs g
-  unread k e = ap (λ (x : Read). readStep s x xs g) (sym e) ∙ read-is
+  heard-is : (m : Looked) → l ≡ m → heardStep s (heardIn m xs) g ≡ stepOf s xs g
+  heard-is m e = ap (λ (x : Looked). heardStep s (heardIn x xs) g) (sym e) ∙ step-is
 
-  pub given-event : (m : Message) (e : Event) → r ≡ read.Message m → e ≡ eventOf m xs → (n : Stepped) → n ≡ eventStep s e g → n ≡ stepOf s xs g
-  given-event m e q w n k = k ∙ ap (λ (x : Event). eventStep s x g) w ∙ ap (λ (x : Read). readStep s x xs g) (sym q) ∙ read-is
+  pub unread-step : (n o : ℕ) → l ≡ looked.Unread n o → (m : ℕ) → m ≡ n % 256 → stepped s (answer.Refused m o) ≡ stepOf s xs g
+  unread-step n o e m q = ap (λ (x : ℕ). stepped s (answer.Refused x o)) q ∙ heard-is (looked.Unread n o) e
+
+  pub change-step : (o x : ℕ) (ts : Tuples) → l ≡ looked.Change o x ts → (m : Stepped) → ((y : ℕ) → m ≡ eventStep s (Change y o (tuplesOf ts)) g) → m ≡ stepOf s xs g
+  change-step o x ts e m q = q x ∙ heard-is (looked.Change o x ts) e
+
+  pub other-step : (c : Act) → l ≡ looked.Other c → (m : Stepped) → m ≡ eventStep s (eventIn c xs) g → m ≡ stepOf s xs g
+  other-step c e m q = q ∙ heard-is (looked.Other c) e

@@ -25,12 +25,14 @@ pub data Event : Type 0 where
   Origin : Event
   -- R: relation OID, identity, column count
   Relation : (oid identity count : ℕ) → Event
-  -- I, U and D: relation OID, and each tuple
-  Change : (oid : ℕ) (tuples : List Tuple) → Event
-  -- T: the OIDs, in order
-  Truncate : (oids : List ℕ) → Event
-  -- Y and M
+  -- I, U and D: the xid that it carries (0 where it has none), relation OID, and each tuple
+  Change : (xid oid : ℕ) (tuples : List Tuple) → Event
+  -- T: the xid that it carries, and the OIDs, in order
+  Truncate : (xid : ℕ) (oids : List ℕ) → Event
+  -- Y
   Neutral : Event
+  -- M: whether it belongs to a transaction (flag 1)
+  Logical : (bound : Bool) → Event
   -- S: xid, and whether it is the first
   StreamStart : (xid : ℕ) (first : Bool) → Event
   -- E
@@ -63,11 +65,11 @@ eventOf (m.Commit r) xs = Commit (r .«commit_lsn»)
 eventOf (m.Origin r) xs = Origin
 eventOf (m.Relation r) xs = Relation (r .relation) (r .identity) (r .count)
 eventOf (m.«Type» r) xs = Neutral
-eventOf (m.Insert r) xs = Change (r .relation) (tupleAt 0x4E xs (r .tuple) ∷ [])
-eventOf (m.Update r) xs = Change (r .relation) (oldBefore (r .old) xs (tupleAt 0x4E xs (r .tuple) ∷ []))
-eventOf (m.Delete r) xs = Change (r .relation) (tupleAt (r .image) xs (r .tuple) ∷ [])
-eventOf (m.Truncate r) xs = Truncate (oidsAt (r .count) xs (At (r .relations)))
-eventOf (m.Message r) xs = Neutral
+eventOf (m.Insert r) xs = Change (r .xid) (r .relation) (tupleAt 0x4E xs (r .tuple) ∷ [])
+eventOf (m.Update r) xs = Change (r .xid) (r .relation) (oldBefore (r .old) xs (tupleAt 0x4E xs (r .tuple) ∷ []))
+eventOf (m.Delete r) xs = Change (r .xid) (r .relation) (tupleAt (r .image) xs (r .tuple) ∷ [])
+eventOf (m.Truncate r) xs = Truncate (r .xid) (oidsAt (r .count) xs (At (r .relations)))
+eventOf (m.Message r) xs = Logical (eqb (r .flags) 1)
 eventOf (m.StreamStart xid first) xs = StreamStart xid (eqb first 1)
 eventOf m.StreamStop xs = StreamStop
 eventOf (m.StreamCommit r) xs = StreamCommit (r .xid)

@@ -3,10 +3,9 @@ use Prim.Native.Nat.{ℕ}
 use mathlib.Core.List.{List}
 use mathlib.Core.Bool.{Bool, cond, not, _&&_}
 use lib.Dec.{eqb}
-use lib.ListN.{replicate}
-use Rattle.catalog.specs.declared.Lookup.{Lookup}
-use Rattle.catalog.specs.declared.Lookup.the-variants.{Missing, Found}
-use Rattle.catalog.specs.Lists.{any, change, replaceFirst, firstOf}
+use lib.ListN.{length, replicate}
+use Rattle.wire.specs.Lists.{any, keep, change, replaceFirst, firstOf}
+use Rattle.session.specs.History.{Announced, unannounced, announced}
 use Rattle.session.specs.State.{Layout}
 
 pub record Row : Type 0 where
@@ -25,11 +24,11 @@ keyIs holder oid r = eqb (r .holder) holder && eqb (r .oid) oid
 abbrev pub isFree : Row → Bool
 isFree r = eqb (r .oid) 0
 
-abbrev pub foundIn : Row → Lookup
-foundIn r = Found (r .tag) (r .identity) (r .columns)
+abbrev pub foundIn : Row → Announced
+foundIn r = announced (r .tag) (r .identity) (r .columns)
 
-abbrev pub lookupIn : (Row → Bool) → List Row → Lookup
-lookupIn p l = firstOf foundIn Missing p l
+abbrev pub lookupIn : (Row → Bool) → List Row → Announced
+lookupIn p l = firstOf foundIn unannounced p l
 
 abbrev pub freeRow : Row
 freeRow = record { holder = 0; oid = 0; tag = 0; identity = 0; columns = 0 }
@@ -52,14 +51,16 @@ abbrev pub putRow : Row → List Row → List Row
 putRow r l =
     cond (any (keyIs (r .holder) (r .oid)) l) (replaceFirst (keyIs (r .holder) (r .oid)) r l) (replaceFirst isFree r l)
 
+abbrev pub isUsed : Row → Bool
+isUsed r = not (isFree r)
+
 abbrev pub firstFit : Layout
 firstFit = record {
   Rows = List Row;
   none = replicate 256 freeRow;
-  see = λ t o r. lookupIn (keyIs t o) r;
-  has = λ t o r. any (keyIs t o) r;
-  full = λ r. not (any isFree r);
-  put = λ t o g i c r. putRow (row t o g i c) r;
-  discard = λ x r. change (dropped x) r;
-  release = λ x r. change (released x r) r;
+  find = λ l t o. lookupIn (keyIs t o) l;
+  used = λ l. length (keep isUsed l);
+  put = λ l t o g i c. putRow (row t o g i c) l;
+  discard = λ l x. change (dropped x) l;
+  release = λ l x. change (released x l) l;
 }

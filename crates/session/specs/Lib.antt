@@ -1,7 +1,10 @@
 pub mod Events
+pub mod History
 pub mod Rules
 pub mod State
 pub mod Machine
+pub mod Runs
+pub mod Layouts
+pub mod FirstFit
 pub mod Acts
 pub mod Listed
-pub mod FirstFit

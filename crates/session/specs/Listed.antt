@@ -4,9 +4,9 @@ use mathlib.Core.List.{List, [], _∷_}
 use mathlib.Core.Bool.{cond, _&&_}
 use lib.Dec.{leb}
 use lib.ListN.{length, take, drop}
-use Rattle.catalog.specs.Table.{first, rest}
+use Rattle.wire.specs.Lists.{first, rest}
 use Rattle.session.specs.declared.Answer.{Answer}
-use Rattle.session.specs.Rules.{Given, given}
+use Rattle.session.specs.History.{Given, given}
 
 -- the bytes from `start` to `end`, and none where these are no part of the slice
 unfoldable pub between : ℕ → ℕ → List ℕ → List ℕ

@@ -1,46 +1,25 @@
--- The session's record, what one step makes of it, how a session starts, and what a session answers to a list of messages.
-use Prim.Native.Nat.{ℕ}
+-- The session's record, what one step makes of it, and the record of a fresh session.
+-- Nobody has to believe this file: a step of the code equals `stepOf`, its start `startOf`, and the list theorem shows what they answer.
+use Prim.Native.Nat.{ℕ, _%_}
 use mathlib.Core.List.{List, [], _∷_}
-use mathlib.Core.Bool.{cond, not}
-use lib.Dec.{eqb}
-use lib.ListN.{replicate, take, length}
+use mathlib.Core.Bool.{Bool, cond, not}
+use lib.Dec.{eqb, leb}
+use lib.ListN.{replicate, getD}
 use Rattle.message.specs.declared.Version.{Version}
-use Rattle.message.specs.declared.Read.{Read}
-use Rattle.message.specs.declared.Read.the-variants as read
-use Rattle.message.specs.Messages.{readMessage}
-use Rattle.catalog.specs.Lists.{each}
-use Rattle.catalog.specs.Table.{Row, rowsOf, streamsOf, over}
+use Rattle.catalog.specs.Opens.{Streams, streams}
+use Rattle.catalog.specs.Tables.{Table, table}
 use Rattle.session.specs.declared.Place.{Place}
 use Rattle.session.specs.declared.Place.the-variants.{Idle, Transaction, Block}
 use Rattle.session.specs.declared.Answer.{Answer}
 use Rattle.session.specs.declared.Answer.the-variants as answer
+use Rattle.session.specs.declared.Head.{Head}
 use Rattle.session.specs.declared.Session.{Session}
 use Rattle.session.specs.declared.Stepped.{Stepped}
-use Rattle.session.specs.Events.{Event, eventOf}
-use Rattle.session.specs.Rules.{accepts, inBlock, Given, given}
-use Rattle.session.specs.State.{State, answerIn, stateAfter}
+use Rattle.session.specs.Events.{Event}
+use Rattle.session.specs.Rules.{Sight, accepts, Heard, unread, heard, hears, Start, versionOf}
+use Rattle.session.specs.State.{State, state, sightIn, answerIn, stateAfter}
 
 -- THE RECORD
-
--- its numbers, one after the other
-abbrev pub made : ℕ → ℕ → ℕ → ℕ → ℕ → List ℕ → List ℕ → ℕ → List ℕ → List ℕ → List ℕ → List ℕ → Session
-made version phase current lsn changed xids marks rows keys tags identities columns = record {
-  version = version;
-  phase = phase;
-  «current_xid» = current;
-  «final_lsn» = lsn;
-  changed = changed;
-  «stream_xids» = xids;
-  «stream_changed» = marks;
-  rows = rows;
-  keys = keys;
-  tags = tags;
-  identities = identities;
-  columns = columns;
-}
-
-abbrev pub versionIn : Session → Version
-versionIn s = record { number = s .version }
 
 -- a place as numbers: phase 1 in a transaction, 2 in a block, else idle
 abbrev pub placeOf : ℕ → ℕ → ℕ → Place
@@ -62,35 +41,98 @@ lsnOf Idle was = was
 lsnOf (Transaction lsn) was = lsn
 lsnOf (Block x) was = was
 
--- every row that it has room for; the first `rows` are in use
-abbrev pub tableOf : Session → List Row
-tableOf s = rowsOf (s .keys) (s .tags) (s .identities) (s .columns)
+-- THE HEAD: the record without its arrays
+abbrev pub placeIn : Head → Place
+placeIn h = placeOf (h .phase) (h .«current_xid») (h .«final_lsn»)
 
--- what the record says
-abbrev pub view : Session → State
-view s = record {
-  place = placeOf (s .phase) (s .«current_xid») (s .«final_lsn»);
-  changed = not (eqb (s .changed) 0);
-  streams = streamsOf (s .«stream_xids») (s .«stream_changed»);
-  rows = take (s .rows) (tableOf s);
+abbrev pub flagIn : Head → Bool
+flagIn h = not (eqb (h .changed) 0)
+
+abbrev pub versionIn : Head → Version
+versionIn h = record { number = h .version }
+
+-- the head that stands at a place, with a change or none, and has so many rows in use
+abbrev pub headAt : Head → Place → Bool → ℕ → Head
+headAt h p b n = record {
+  version = h .version;
+  phase = phaseOf p;
+  «current_xid» = currentOf p (h .«current_xid»);
+  «final_lsn» = lsnOf p (h .«final_lsn»);
+  changed = cond b 1 0;
+  rows = n;
 }
 
--- the record that says something new: behind the rows in use it is as it was
-abbrev pub written : Session → State → Session
-written s n =
-    made
-    (s .version)
-    (phaseOf (n .place))
-    (currentOf (n .place) (s .«current_xid»))
-    (lsnOf (n .place) (s .«final_lsn»))
-    (cond (n .changed) 1 0)
-    (each (λ r. r .xid) (n .streams))
-    (each (λ r. r .changed) (n .streams))
-    (length (n .rows))
-    (each (λ r. r .key) (over (n .rows) (tableOf s)))
-    (each (λ r. r .tag) (over (n .rows) (tableOf s)))
-    (each (λ r. r .identity) (over (n .rows) (tableOf s)))
-    (each (λ r. r .columns) (over (n .rows) (tableOf s)))
+-- THE PARTS of a record: a head, and the arrays of the tables
+pub record Parts : Type 0 where
+  pub head : Head
+  pub xids : List ℕ
+  pub marks : List ℕ
+  pub keys : List ℕ
+  pub tags : List ℕ
+  pub identities : List ℕ
+  pub columns : List ℕ
+
+abbrev pub parts : Head → List ℕ → List ℕ → List ℕ → List ℕ → List ℕ → List ℕ → Parts
+parts h x m k g i c = record { head = h; xids = x; marks = m; keys = k; tags = g; identities = i; columns = c }
+
+abbrev pub streamsOf : Parts → Streams
+streamsOf p = streams (p .xids) (p .marks)
+
+abbrev pub tableOf : Parts → Table
+tableOf p = table (p .head .rows) (p .keys) (p .tags) (p .identities) (p .columns)
+
+-- what they say
+abbrev pub view : Parts → State
+view p = state (placeIn (p .head)) (flagIn (p .head)) (streamsOf p) (tableOf p)
+
+-- the parts that say something new
+abbrev pub written : Parts → State → Parts
+written p n =
+    parts
+    (headAt (p .head) (n .place) (n .changed) (n .table .count))
+    (n .streams .xids)
+    (n .streams .marks)
+    (n .table .keys)
+    (n .table .tags)
+    (n .table .identities)
+    (n .table .columns)
+
+-- THE RECORD: the head's numbers, in words, and the arrays
+abbrev pub sessionOf : List ℕ → List ℕ → List ℕ → List ℕ → List ℕ → List ℕ → List ℕ → Session
+sessionOf head xids marks keys tags identities columns = record {
+  head = head;
+  «stream_xids» = xids;
+  «stream_changed» = marks;
+  keys = keys;
+  tags = tags;
+  identities = identities;
+  columns = columns;
+}
+
+-- a version that does not fit its number is 0, which is none; of the other words the low bits count
+abbrev pub headIn : List ℕ → Head
+headIn w = record {
+  «final_lsn» = getD w 0 0;
+  version = cond (leb 4294967296 (getD w 1 0)) 0 (getD w 1 0);
+  «current_xid» = getD w 2 0 % 4294967296;
+  phase = getD w 3 0 % 4294967296;
+  changed = getD w 4 0 % 65536;
+  rows = getD w 5 0 % 65536;
+}
+
+-- and back, where the version's word stays
+abbrev pub wordsOf : ℕ → Head → List ℕ
+wordsOf version h = h .«final_lsn» ∷ version ∷ h .«current_xid» ∷ h .phase ∷ h .changed ∷ h .rows ∷ []
+
+abbrev pub partsOf : Session → Parts
+partsOf s = parts (headIn (s .head)) (s .«stream_xids») (s .«stream_changed») (s .keys) (s .tags) (s .identities) (s .columns)
+
+abbrev pub made : ℕ → Parts → Session
+made version p = sessionOf (wordsOf version (p .head)) (p .xids) (p .marks) (p .keys) (p .tags) (p .identities) (p .columns)
+
+-- what it shows a rule
+abbrev pub shows : Session → Sight
+shows s = sightIn (view (partsOf s))
 
 -- A STEP
 
@@ -98,38 +140,31 @@ abbrev pub stepped : Session → Answer → Stepped
 stepped s a = record { session = s; answer = a }
 
 abbrev pub eventStep : Session → Event → ℕ → Stepped
-eventStep s e g = let a = answerIn (view s) e in stepped (cond (accepts a) (written s (stateAfter (view s) e g)) s) a
+eventStep s e g =
+    let p = partsOf s in
+    let a = answerIn (view p) e in
+    stepped (cond (accepts a) (made (getD (s .head) 1 0) (written p (stateAfter (view p) e g))) s) a
 
-abbrev pub readStep : Session → Read → List ℕ → ℕ → Stepped
-readStep s (read.Refused r) xs g = stepped s (answer.Refused (r .number) (r .offset))
-readStep s (read.Message m) xs g = eventStep s (eventOf m xs) g
+abbrev pub heardStep : Session → Heard → ℕ → Stepped
+heardStep s (unread n o) g = stepped s (answer.Refused n o)
+heardStep s (heard e) g = eventStep s e g
 
 -- a message's bytes and its tag, given to a session: reading's refusal and a refused message leave it as it was
 unfoldable pub stepOf : Session → List ℕ → ℕ → Stepped
-stepOf s xs g = readStep s (readMessage (versionIn s) (inBlock (view s .place)) xs) xs g
+stepOf s xs g = heardStep s (hears (versionIn (partsOf s .head)) (shows s .place) xs) g
 
 -- A START
-
--- with no version named, or with any number
-pub data Start : Type 0 where
-  unnamed : Start
-  named : ℕ → Start
-
-abbrev pub versionOf : Start → Version
-versionOf unnamed = record { number = 1 }
-versionOf (named n) = record { number = n }
 
 -- idle, with nothing open and nothing announced
 unfoldable pub startOf : Start → Session
 startOf s =
-    made (versionOf s .number) 0 0 0 0 (replicate 16 0) (replicate 16 0) 0 (replicate 256 0) (replicate 256 0) (replicate 256 0) (replicate 256 0)
-
--- A LIST: each message goes to the session as the last one left it
-unfoldable pub run : Session → List Given → List Answer
-run s [] = []
-run s (given xs g ∷ l) = stepOf s xs g .answer ∷ run (stepOf s xs g .session) l
-
--- and the record after the list
-unfoldable pub after : Session → List Given → Session
-after s [] = s
-after s (given xs g ∷ l) = after (stepOf s xs g .session) l
+    made
+    (versionOf s .number)
+    (parts
+    (record { version = versionOf s .number; phase = 0; «current_xid» = 0; «final_lsn» = 0; changed = 0; rows = 0 })
+    (replicate 16 0)
+    (replicate 16 0)
+    (replicate 256 0)
+    (replicate 256 0)
+    (replicate 256 0)
+    (replicate 256 0))

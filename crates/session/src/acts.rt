@@ -1,13 +1,20 @@
 // From a message that was read to what the session looks at in it.
 ghost use mathlib.Core.Path.{_≡_};
-ghost use Prim.Native.Nat.{_<_};
+ghost use mathlib.Core.List.{List, [], _∷_};
+ghost use Prim.Native.Nat.{ℕ, _<_, _%_};
 ghost use Rattle.wire.specs.declared.Cursor.the-variants.{At};
 ghost use Rattle.wire.specs.Fields.{numberField};
-ghost use Rattle.session.specs.Events.{eventOf};
-ghost use Rattle.session.specs.Acts.{eventIn};
+ghost use Rattle.session.specs.Events.{Change, tuple, oldBefore, eventOf};
+ghost use Rattle.session.specs.Rules.{heard};
+ghost use Rattle.session.specs.Acts.{tuplesOf, eventIn, heardIn};
 use crate::Act;
+use crate::Looked;
+use crate::Shape;
+use crate::Tuples;
 use message::Message;
 use message::OldTuple;
+use message::Relation;
+use message::Truncate;
 use message::Update;
 use wire::Cursor;
 use wire::Field16;
@@ -22,10 +29,29 @@ pub fn wide8(x: u8) -> u64
     x as u64
 }
 
+pub fn wide32(x: u32) -> u64
+    ensures { λ r. ⌜ r ≡ x ⌝ }
+{
+    x as u64
+}
+
 pub fn wide16(x: u16) -> u64
     ensures { λ r. ⌜ (r ≡ x) × (r < 65536) ⌝ }
 {
     x as u64
+}
+
+// And back: what does not fit is cut off.
+pub fn narrow8(x: u64) -> u8
+    ensures { λ r. ⌜ r ≡ x % 256 ⌝ }
+{
+    (x % 256) as u8
+}
+
+pub fn narrow16(x: u64) -> u16
+    ensures { λ r. ⌜ r ≡ x % 65536 ⌝ }
+{
+    (x % 65536) as u16
 }
 
 // How many columns the tuple at `start` counts.
@@ -42,71 +68,119 @@ pub fn count_at(bytes: &[u8], start: usize) -> u64
     wide16(value)
 }
 
-pub fn change(oid: u32, old: u64, old_count: u64, letter: u64, count: u64) -> Act
-    ensures { λ r. ⌜ r ≡ Act.Change oid old «old_count» letter count ⌝ }
+// A change that has one tuple.
+pub fn change(xid: u32, oid: u32, letter: u64, count: u64) -> Looked
+    ensures { λ r. ⌜ ((xs : List ℕ) → heardIn r xs ≡ heard (Change xid oid (tuple letter count ∷ []))) ⌝ }
 {
-    Act::Change {
-        oid,
-        old,
-        old_count,
+    let tuples = Tuples {
+        old: 0,
+        old_count: 0,
         letter,
         count,
+    };
+    Looked::Change {
+        oid,
+        xid: wide32(xid),
+        tuples,
     }
 }
 
-pub fn update(x: Update, bytes: &[u8]) -> Act
-    ensures { λ r. ⌜ eventIn r (now (bytes .entry)) ≡ eventOf (Message.Update x) (now (bytes .entry)) ⌝ }
+// The tuples of an Update.
+pub fn updated(old: OldTuple, count: u64, bytes: &[u8]) -> Tuples
+    ensures { λ r. ⌜ tuplesOf r ≡ oldBefore old (now (bytes .entry)) (tuple 0x4E count ∷ []) ⌝ }
+{
+    let letter = Tuples::NEW;
+    match old {
+        OldTuple::Nothing => Tuples {
+            old: 0,
+            old_count: 0,
+            letter,
+            count,
+        },
+        OldTuple::Key(start) => Tuples {
+            old: Tuples::KEY,
+            old_count: count_at(bytes, start),
+            letter,
+            count,
+        },
+        OldTuple::Full(start) => Tuples {
+            old: Tuples::OLD,
+            old_count: count_at(bytes, start),
+            letter,
+            count,
+        },
+    }
+}
+
+pub fn update(x: Update, bytes: &[u8]) -> Looked
+    ensures { λ r. ⌜ heardIn r (now (bytes .entry)) ≡ heard (eventOf (Message.Update x) (now (bytes .entry))) ⌝ }
 {
     let Update {
+        xid,
         relation,
         old,
         tuple,
         ..
     } = x;
     let count = count_at(bytes, tuple);
-    match old {
-        OldTuple::Nothing => change(relation, 0, 0, Act::NEW, count),
-        OldTuple::Key(start) => change(relation, Act::KEY, count_at(bytes, start), Act::NEW, count),
-        OldTuple::Full(start) => change(
-            relation,
-            Act::OLD,
-            count_at(bytes, start),
-            Act::NEW,
-            count,
-        ),
+    Looked::Change {
+        oid: relation,
+        xid: wide32(xid),
+        tuples: updated(old, count, bytes),
+    }
+}
+
+pub fn relation(x: Relation) -> Act
+    ensures { λ r. ⌜ ((xs : List ℕ) → eventIn r xs ≡ eventOf (Message.Relation x) xs) ⌝ }
+{
+    Act::Relation {
+        oid: x.relation,
+        shape: Shape {
+            identity: wide8(x.identity),
+            columns: wide16(x.count),
+        },
+    }
+}
+
+pub fn truncate(x: Truncate) -> Act
+    ensures { λ r. ⌜ ((xs : List ℕ) → eventIn r xs ≡ eventOf (Message.Truncate x) xs) ⌝ }
+{
+    Act::Truncate {
+        count: x.count,
+        start: x.relations,
+        xid: wide32(x.xid),
     }
 }
 
 // What the session looks at in a message that was read, whose bytes are lent.
-pub fn act_of(m: Message, bytes: &[u8]) -> Act
-    ensures { λ r. ⌜ eventIn r (now (bytes .entry)) ≡ eventOf m (now (bytes .entry)) ⌝ }
+pub fn looked_at(m: Message, bytes: &[u8]) -> Looked
+    ensures { λ r. ⌜ heardIn r (now (bytes .entry)) ≡ heard (eventOf m (now (bytes .entry))) ⌝ }
 {
     match m {
-        Message::Begin(x) => Act::Begin {
+        Message::Begin(x) => Looked::Other(Act::Begin {
             lsn: x.final_lsn,
             xid: x.xid,
-        },
-        Message::Commit(x) => Act::Commit { lsn: x.commit_lsn },
-        Message::Origin(_) => Act::Origin,
-        Message::Relation(x) => Act::Relation {
-            oid: x.relation,
-            identity: wide8(x.identity),
-            columns: wide16(x.count),
-        },
-        Message::Insert(x) => change(x.relation, 0, 0, Act::NEW, count_at(bytes, x.tuple)),
+        }),
+        Message::Commit(x) => Looked::Other(Act::Commit { lsn: x.commit_lsn }),
+        Message::Origin(_) => Looked::Other(Act::Origin),
+        Message::Relation(x) => Looked::Other(relation(x)),
+        Message::Type(_) => Looked::Other(Act::Neutral),
+        Message::Insert(x) => change(x.xid, x.relation, Tuples::NEW, count_at(bytes, x.tuple)),
         Message::Update(x) => update(x, bytes),
-        Message::Delete(x) => change(x.relation, 0, 0, wide8(x.image), count_at(bytes, x.tuple)),
-        Message::Truncate(x) => Act::Truncate {
-            start: x.relations,
-            count: x.count,
-        },
-        Message::StreamStart { xid, first } => Act::StreamStart {
+        Message::Delete(x) => change(x.xid, x.relation, wide8(x.image), count_at(bytes, x.tuple)),
+        Message::Truncate(x) => Looked::Other(truncate(x)),
+        Message::Message(x) => Looked::Other(Act::Logical {
+            flags: wide8(x.flags),
+        }),
+        Message::StreamStart { xid, first } => Looked::Other(Act::StreamStart {
             xid,
             first: wide8(first),
-        },
-        Message::StreamStop => Act::StreamStop,
-        Message::StreamCommit(x) => Act::StreamCommit { xid: x.xid },
-        Message::StreamAbort { xid, sub_xid } => Act::StreamAbort { xid, sub: sub_xid },
-        _ => Act::Neutral,
+        }),
+        Message::StreamStop => Looked::Other(Act::StreamStop),
+        Message::StreamCommit(x) => Looked::Other(Act::StreamCommit { xid: x.xid }),
+        Message::StreamAbort { xid, sub_xid } => Looked::Other(Act::StreamAbort {
+            xid,
+            sub: sub_xid,
+        }),
     }
 }

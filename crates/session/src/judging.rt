@@ -1,19 +1,22 @@
-// The judgement of a message by the tables: nothing is stored.
+// JUDGE: the judgement of a message by the tables (`judge_change`, `judge`). Nothing is stored.
 ghost use mathlib.Core.Path.{_≡_};
-ghost use mathlib.Core.Bool.{not};
 ghost use mathlib.Core.List.{List};
 ghost use Prim.Native.Nat.{ℕ};
-ghost use lib.ListN.{take};
+ghost use lib.Dec.{leb};
 ghost use Rattle.wire.specs.declared.Cursor.the-variants.{At};
-ghost use Rattle.catalog.specs.Lists.{any};
-ghost use Rattle.catalog.specs.Table.{rowsOf, streamsOf, xidIs, keyOf, hasIn, isFull};
+ghost use Rattle.catalog.specs.Opens.{streams, isOpenIn, openCountIn};
+ghost use Rattle.catalog.specs.Tables.{table, usedIn};
 ghost use Rattle.session.specs.Events.{oidsAt};
-ghost use Rattle.session.specs.Rules.{holderAt, ruleBegin, ruleOrigin, ruleRelation, ruleChange, ruleTruncate, ruleStreamStart, ruleStreamEnd, allSeen, firstSeen};
-ghost use Rattle.session.specs.State.{visibleIn, changedAt, answerFor};
+ghost use Rattle.session.specs.History.{holderAt, isAnnounced};
+ghost use Rattle.session.specs.Rules.{ruleBegin, ruleOrigin, ruleRelation, ruleChange, ruleTruncate, ruleStreamStart, ruleStreamEnd, allSeen, firstSeen};
+ghost use Rattle.session.specs.State.{announcedBy, heldIn, changedAt, visibleIn, answerIn};
+ghost use Rattle.session.specs.Machine.{placeIn, parts, view};
 ghost use Rattle.session.specs.Acts.{tuplesOf, eventIn};
 use crate::Act;
 use crate::Answer;
+use crate::Head;
 use crate::Place;
+use crate::Tuples;
 use crate::rules;
 use catalog::Lookup;
 use catalog::announcements;
@@ -33,28 +36,17 @@ pub fn visible(
     columns: &[u16; 256],
     oid: u32,
 ) -> Lookup
-    ensures { λ r. ⌜ r ≡ visibleIn place (take rows (rowsOf (now (keys .entry)) (now (tags .entry)) (now (identities .entry)) (now (columns .entry)))) oid ⌝ }
+    ensures { λ r. ⌜ announcedBy r ≡ visibleIn place (table rows (now (keys .entry)) (now (tags .entry)) (now (identities .entry)) (now (columns .entry))) oid ⌝ }
 {
     match place {
         Place::Idle => Lookup::Missing,
-        Place::Transaction(_) => {
-            announcements::find_announcement(keys, tags, identities, columns, 0, rows, 0, oid)
-        }
+        Place::Transaction(_) => announcements::find(keys, tags, identities, columns, rows, 0, oid),
         Place::Block(xid) => {
-            let own = announcements::find_announcement(
-                keys,
-                tags,
-                identities,
-                columns,
-                0,
-                rows,
-                xid,
-                oid,
-            );
+            let own = announcements::find(keys, tags, identities, columns, rows, xid, oid);
             if rules::is_found(own) {
                 return own;
             }
-            announcements::find_announcement(keys, tags, identities, columns, 0, rows, 0, oid)
+            announcements::find(keys, tags, identities, columns, rows, 0, oid)
         }
     }
 }
@@ -71,7 +63,7 @@ pub fn all_visible(
     start: usize,
     count: u32,
 ) -> bool
-    ensures { λ r. ⌜ r ≡ allSeen (visibleIn place (take rows (rowsOf (now (keys .entry)) (now (tags .entry)) (now (identities .entry)) (now (columns .entry))))) (oidsAt count (now (bytes .entry)) (At start)) ⌝ }
+    ensures { λ r. ⌜ r ≡ allSeen (visibleIn place (table rows (now (keys .entry)) (now (tags .entry)) (now (identities .entry)) (now (columns .entry)))) (oidsAt count (now (bytes .entry)) (At start)) ⌝ }
 {
     let mut left = count;
     let mut at = Cursor::At(start);
@@ -98,7 +90,7 @@ pub fn first_visible(
     start: usize,
     count: u32,
 ) -> Lookup
-    ensures { λ r. ⌜ r ≡ firstSeen (visibleIn place (take rows (rowsOf (now (keys .entry)) (now (tags .entry)) (now (identities .entry)) (now (columns .entry))))) (oidsAt count (now (bytes .entry)) (At start)) ⌝ }
+    ensures { λ r. ⌜ announcedBy r ≡ firstSeen (visibleIn place (table rows (now (keys .entry)) (now (tags .entry)) (now (identities .entry)) (now (columns .entry)))) (oidsAt count (now (bytes .entry)) (At start)) ⌝ }
 {
     if count == 0 {
         return Lookup::Missing;
@@ -108,74 +100,70 @@ pub fn first_visible(
 }
 
 // Whether the transaction of a place had a change.
-pub fn changed_at(
-    place: Place,
-    changed: bool,
-    stream_xids: &[u32; 16],
-    stream_changed: &[u8; 16],
-) -> bool
-    ensures { λ r. ⌜ r ≡ changedAt place changed (streamsOf (now («stream_xids» .entry)) (now («stream_changed» .entry))) ⌝ }
+pub fn changed_at(place: Place, changed: bool, xids: &[u32; 16], marks: &[u8; 16]) -> bool
+    ensures { λ r. ⌜ r ≡ changedAt changed (streams (now (xids .entry)) (now (marks .entry))) (holderAt place) ⌝ }
 {
-    match place {
-        Place::Idle => changed,
-        Place::Transaction(_) => changed,
-        Place::Block(xid) => catalog::streams::stream_changed(stream_xids, stream_changed, xid),
+    let holder = rules::holder_at(place);
+    if holder == 0 {
+        return changed;
     }
+    catalog::streams::is_changed(xids, marks, holder)
 }
 
 // The judgement of each kind, by what the tables show.
-pub fn judge_begin(place: Place, stream_xids: &[u32; 16], xid: u32) -> Answer
-    ensures { λ r. ⌜ ((m : List ℕ) → r ≡ ruleBegin place (any (xidIs xid) (streamsOf (now («stream_xids» .entry)) m))) ⌝ }
+pub fn judge_begin(place: Place, xids: &[u32; 16], xid: u32) -> Answer
+    ensures { λ r. ⌜ ((m : List ℕ) → r ≡ ruleBegin place (isOpenIn (streams (now (xids .entry)) m) xid)) ⌝ }
 {
-    let open = catalog::streams::has_stream(stream_xids, xid);
+    let open = catalog::streams::is_open(xids, xid);
     rules::answer_of(rules::rule_begin(place, open))
 }
 
-pub fn judge_origin(
-    place: Place,
-    changed: bool,
-    stream_xids: &[u32; 16],
-    stream_changed: &[u8; 16],
-) -> Answer
-    ensures { λ r. ⌜ r ≡ ruleOrigin place (changedAt place changed (streamsOf (now («stream_xids» .entry)) (now («stream_changed» .entry)))) ⌝ }
+pub fn judge_origin(place: Place, changed: bool, xids: &[u32; 16], marks: &[u8; 16]) -> Answer
+    ensures { λ r. ⌜ r ≡ ruleOrigin place (changedAt changed (streams (now (xids .entry)) (now (marks .entry))) (holderAt place)) ⌝ }
 {
-    let late = changed_at(place, changed, stream_xids, stream_changed);
+    let late = changed_at(place, changed, xids, marks);
     rules::answer_of(rules::rule_origin(place, late))
 }
 
 pub fn judge_relation(place: Place, rows: u16, keys: &[u64; 256], oid: u32) -> Answer
-    ensures { λ r. ⌜ ((g i k : List ℕ) → r ≡ ruleRelation place (hasIn (keyOf (holderAt place) oid) (take rows (rowsOf (now (keys .entry)) g i k))) (isFull 256 (take rows (rowsOf (now (keys .entry)) g i k)))) ⌝ }
+    ensures { λ r. ⌜ ((g i k : List ℕ) → r ≡ ruleRelation place (isAnnounced (heldIn (table rows (now (keys .entry)) g i k) (holderAt place) oid)) (leb 256 (usedIn (table rows (now (keys .entry)) g i k)))) ⌝ }
 {
-    let live = announcements::has_key(keys, 0, rows, rules::holder_at(place), oid);
-    let full = announcements::is_full(keys, 0, rows, 256);
+    let live = announcements::is_announced(keys, rows, rules::holder_at(place), oid);
+    let full = announcements::is_full(keys, rows);
     rules::within(place, rules::answer_of(rules::rule_room(live, full)))
 }
 
 pub fn judge_change(
-    place: Place,
-    rows: u16,
+    head: Head,
     keys: &[u64; 256],
     tags: &[u64; 256],
     identities: &[u8; 256],
     columns: &[u16; 256],
     oid: u32,
-    old: u64,
-    old_count: u64,
-    letter: u64,
-    count: u64,
+    t: Tuples,
 ) -> Answer
-    ensures { λ r. ⌜ r ≡ ruleChange place (visibleIn place (take rows (rowsOf (now (keys .entry)) (now (tags .entry)) (now (identities .entry)) (now (columns .entry)))) oid) (tuplesOf old «old_count» letter count) ⌝ }
+    ensures { λ r. ⌜ r ≡ ruleChange (placeIn head) (visibleIn (placeIn head) (table (head .rows) (now (keys .entry)) (now (tags .entry)) (now (identities .entry)) (now (columns .entry))) oid) (tuplesOf t) ⌝ }
 {
-    let seen = visible(place, rows, keys, tags, identities, columns, oid);
-    rules::within(
-        place,
-        rules::rule_shape(seen, old, old_count, letter, count),
-    )
+    let place = rules::place_of(head);
+    let n = head.rows;
+    match place {
+        Place::Idle => Answer::Refused {
+            number: Refusal::PLACE,
+            offset: 0,
+        },
+        Place::Transaction(_) => {
+            let seen = announcements::find(keys, tags, identities, columns, n, 0, oid);
+            rules::rule_shape(seen, t)
+        }
+        Place::Block(_) => {
+            let seen = visible(place, n, keys, tags, identities, columns, oid);
+            rules::rule_shape(seen, t)
+        }
+    }
 }
 
 pub fn judge_truncate(
-    place: Place,
-    rows: u16,
+    head: Head,
     keys: &[u64; 256],
     tags: &[u64; 256],
     identities: &[u8; 256],
@@ -184,55 +172,35 @@ pub fn judge_truncate(
     start: usize,
     count: u32,
 ) -> Answer
-    ensures { λ r. ⌜ r ≡ ruleTruncate place (visibleIn place (take rows (rowsOf (now (keys .entry)) (now (tags .entry)) (now (identities .entry)) (now (columns .entry))))) (oidsAt count (now (bytes .entry)) (At start)) ⌝ }
+    ensures { λ r. ⌜ r ≡ ruleTruncate (placeIn head) (visibleIn (placeIn head) (table (head .rows) (now (keys .entry)) (now (tags .entry)) (now (identities .entry)) (now (columns .entry)))) (oidsAt count (now (bytes .entry)) (At start)) ⌝ }
 {
-    let all = all_visible(
-        place,
-        rows,
-        keys,
-        tags,
-        identities,
-        columns,
-        bytes,
-        start,
-        count,
-    );
-    let first = first_visible(
-        place,
-        rows,
-        keys,
-        tags,
-        identities,
-        columns,
-        bytes,
-        start,
-        count,
-    );
-    rules::within(place, rules::rule_relations(all, first))
+    let p = rules::place_of(head);
+    let n = head.rows;
+    let all = all_visible(p, n, keys, tags, identities, columns, bytes, start, count);
+    let first = first_visible(p, n, keys, tags, identities, columns, bytes, start, count);
+    rules::within(p, rules::rule_relations(all, first))
 }
 
-pub fn judge_stream_start(place: Place, stream_xids: &[u32; 16], xid: u32, first: bool) -> Answer
-    ensures { λ r. ⌜ ((m : List ℕ) → r ≡ ruleStreamStart place first (any (xidIs xid) (streamsOf (now («stream_xids» .entry)) m)) (not (any (xidIs 0) (streamsOf (now («stream_xids» .entry)) m)))) ⌝ }
+pub fn judge_stream_start(place: Place, xids: &[u32; 16], xid: u32, first: bool) -> Answer
+    ensures { λ r. ⌜ ((m : List ℕ) → r ≡ ruleStreamStart place first (isOpenIn (streams (now (xids .entry)) m) xid) (leb 16 (openCountIn (streams (now (xids .entry)) m)))) ⌝ }
 {
-    let open = catalog::streams::has_stream(stream_xids, xid);
-    let room = catalog::streams::has_stream(stream_xids, 0);
-    rules::answer_of(rules::rule_stream_start(place, first, open, !room))
+    let open = catalog::streams::is_open(xids, xid);
+    let full = catalog::streams::is_full(xids);
+    rules::answer_of(rules::rule_stream_start(place, first, open, full))
 }
 
-pub fn judge_stream_end(place: Place, stream_xids: &[u32; 16], xid: u32) -> Answer
-    ensures { λ r. ⌜ ((m : List ℕ) → r ≡ ruleStreamEnd place (any (xidIs xid) (streamsOf (now («stream_xids» .entry)) m))) ⌝ }
+pub fn judge_stream_end(place: Place, xids: &[u32; 16], xid: u32) -> Answer
+    ensures { λ r. ⌜ ((m : List ℕ) → r ≡ ruleStreamEnd place (isOpenIn (streams (now (xids .entry)) m) xid)) ⌝ }
 {
-    let open = catalog::streams::has_stream(stream_xids, xid);
+    let open = catalog::streams::is_open(xids, xid);
     rules::answer_of(rules::rule_stream_end(place, open))
 }
 
-// The judgement of a message: nothing is stored.
+// The judgement of a message of another kind.
 pub fn judge(
-    place: Place,
-    changed: bool,
-    stream_xids: &[u32; 16],
-    stream_changed: &[u8; 16],
-    rows: u16,
+    head: Head,
+    xids: &[u32; 16],
+    marks: &[u8; 16],
     keys: &[u64; 256],
     tags: &[u64; 256],
     identities: &[u8; 256],
@@ -240,47 +208,22 @@ pub fn judge(
     a: Act,
     bytes: &[u8],
 ) -> Answer
-    ensures { λ r. ⌜ r ≡ answerFor place changed (streamsOf (now («stream_xids» .entry)) (now («stream_changed» .entry))) (take rows (rowsOf (now (keys .entry)) (now (tags .entry)) (now (identities .entry)) (now (columns .entry)))) (eventIn a (now (bytes .entry))) ⌝ }
+    ensures { λ r. ⌜ r ≡ answerIn (view (parts head (now (xids .entry)) (now (marks .entry)) (now (keys .entry)) (now (tags .entry)) (now (identities .entry)) (now (columns .entry)))) (eventIn a (now (bytes .entry))) ⌝ }
 {
+    let p = rules::place_of(head);
     match a {
-        Act::Begin { xid, .. } => judge_begin(place, stream_xids, xid),
-        Act::Commit { lsn } => rules::answer_of(rules::rule_commit(place, lsn)),
-        Act::Origin => judge_origin(place, changed, stream_xids, stream_changed),
-        Act::Relation { oid, .. } => judge_relation(place, rows, keys, oid),
-        Act::Change {
-            oid,
-            old,
-            old_count,
-            letter,
-            count,
-        } => judge_change(
-            place,
-            rows,
-            keys,
-            tags,
-            identities,
-            columns,
-            oid,
-            old,
-            old_count,
-            letter,
-            count,
-        ),
-        Act::Truncate { start, count } => judge_truncate(
-            place,
-            rows,
-            keys,
-            tags,
-            identities,
-            columns,
-            bytes,
-            start,
-            count,
-        ),
-        Act::Neutral => rules::answer_of(rules::rule_neutral(place)),
-        Act::StreamStart { xid, first } => judge_stream_start(place, stream_xids, xid, first == 1),
-        Act::StreamStop => rules::answer_of(rules::rule_stream_stop(place)),
-        Act::StreamCommit { xid } => judge_stream_end(place, stream_xids, xid),
-        Act::StreamAbort { xid, .. } => judge_stream_end(place, stream_xids, xid),
+        Act::Begin { xid, .. } => judge_begin(p, xids, xid),
+        Act::Commit { lsn } => rules::answer_of(rules::rule_commit(p, lsn)),
+        Act::Origin => judge_origin(p, rules::flag_of(head), xids, marks),
+        Act::Relation { oid, .. } => judge_relation(p, head.rows, keys, oid),
+        Act::Truncate { start, count, .. } => {
+            judge_truncate(head, keys, tags, identities, columns, bytes, start, count)
+        }
+        Act::Neutral => rules::answer_of(rules::rule_neutral(p)),
+        Act::Logical { .. } => rules::answer_of(rules::rule_neutral(p)),
+        Act::StreamStart { xid, first } => judge_stream_start(p, xids, xid, first == 1),
+        Act::StreamStop => rules::answer_of(rules::rule_stream_stop(p)),
+        Act::StreamCommit { xid } => judge_stream_end(p, xids, xid),
+        Act::StreamAbort { xid, .. } => judge_stream_end(p, xids, xid),
     }
 }

@@ -3,17 +3,26 @@ ghost use mathlib.Core.List.{[]};
 ghost use lib.ListN.{getD};
 ghost use Prim.Native.Nat.{ℕ};
 ghost use Rattle.session.specs.Events.{Change};
-ghost use Rattle.session.specs.Rules.{answers};
-ghost use Rattle.session.specs.Machine.{made, stepped, eventStep, stepOf, startOf, named, unnamed};
+ghost use Rattle.session.specs.Rules.{hears, answers, named, unnamed};
+ghost use Rattle.session.specs.Machine.{placeIn, versionIn, sessionOf, stepped, eventStep, stepOf, startOf};
 ghost use Rattle.session.specs.Listed.{between, messagesIn, lastOr};
-ghost use Rattle.session.specs.Acts.{eventIn, tuplesOf};
+ghost use Rattle.session.specs.Acts.{tuplesOf, heardIn};
 use message::Read;
 use message::Version;
 
 mod acts;
+mod asking;
+mod heads;
 mod judging;
 mod rules;
 mod storing;
+
+pub use asking::place_of;
+pub use asking::read_in;
+pub use asking::version_of;
+pub use asking::visible_in;
+use judging::judge;
+use storing::apply;
 
 // Where a session stands: idle, between Begin and Commit (with the Begin's final LSN), or in a stream block (of an xid).
 pub enum Place {
@@ -37,32 +46,36 @@ pub enum Answer {
     },
 }
 
-// A session: numbers and arrays of numbers only, each content of which means something.
-// A stream's xid of 0 is a free place. The first `rows` announcements are in use, sorted by their keys, which hold the holder (0 is
-// common) and the OID.
-#[repr(C)]
-pub struct Session {
-    pub version: u32,
-    pub phase: u8,
-    pub current_xid: u32,
-    pub final_lsn: u64,
-    pub changed: u8,
-    pub stream_xids: [u32; 16],
-    pub stream_changed: [u8; 16],
-    pub rows: u16,
-    pub keys: [u64; 256],
-    pub tags: [u64; 256],
-    pub identities: [u8; 256],
-    pub columns: [u16; 256],
+// A session without its arrays: where it stands, whether the transaction between Begin and Commit had a change, and how many rows of
+// the announcements are in use. Each content means something.
+struct Head {
+    final_lsn: u64,
+    version: u32,
+    current_xid: u32,
+    phase: u32,
+    changed: u16,
+    rows: u16,
 }
 
-// The phases; any other byte is idle too.
-impl Session {
-    pub const IDLE: u8 = 0;
+// The phases; any other number is idle too.
+impl Head {
+    const IDLE: u32 = 0;
 
-    pub const TRANSACTION: u8 = 1;
+    const TRANSACTION: u32 = 1;
 
-    pub const BLOCK: u8 = 2;
+    const BLOCK: u32 = 2;
+}
+
+// A session: the numbers of its head, in words, and the arrays of the catalog's tables, which alone knows what stands where in them.
+#[repr(C)]
+pub struct Session {
+    head: [u64; 6],
+    stream_xids: [u32; 16],
+    stream_changed: [u8; 16],
+    keys: [u64; 256],
+    tags: [u64; 256],
+    identities: [u8; 256],
+    columns: [u16; 256],
 }
 
 // A session after a message, and the message's answer.
@@ -71,50 +84,18 @@ pub struct Stepped {
     pub answer: Answer,
 }
 
-// What the session looks at in a message, in whole words: smaller numbers would be packed and unpacked with the LSNs of other kinds.
-// A Change's old tuple has the letter 0 where there is none.
-enum Act {
-    Begin {
-        lsn: u64,
-        xid: u32,
-    },
-    Commit {
-        lsn: u64,
-    },
-    Origin,
-    Relation {
-        oid: u32,
-        identity: u64,
-        columns: u64,
-    },
-    Change {
-        oid: u32,
-        old: u64,
-        old_count: u64,
-        letter: u64,
-        count: u64,
-    },
-    Truncate {
-        start: usize,
-        count: u32,
-    },
-    Neutral,
-    StreamStart {
-        xid: u32,
-        first: u64,
-    },
-    StreamStop,
-    StreamCommit {
-        xid: u32,
-    },
-    StreamAbort {
-        xid: u32,
-        sub: u32,
-    },
+// What the session looks at in a message is in whole words: smaller numbers would be packed and unpacked with those of other kinds.
+
+// The tuples of an Insert, Update or Delete, each with its letter and column count. An old one with the letter 0 is none.
+struct Tuples {
+    old: u64,
+    old_count: u64,
+    letter: u64,
+    count: u64,
 }
 
 // The letters of a change's tuples: `N`, the new row; `K`, the key; `O`, the whole old row.
-impl Act {
+impl Tuples {
     const NEW: u64 = 0x4E;
 
     const KEY: u64 = 0x4B;
@@ -122,205 +103,81 @@ impl Act {
     const OLD: u64 = 0x4F;
 }
 
-// Gives the session what it looks at in a message: a judgement and, where that accepts, the stores.
-fn judged_fields<'a>(
-    version: u32,
-    phase: &'a mut u8,
-    current_xid: &'a mut u32,
-    final_lsn: &'a mut u64,
-    changed: &'a mut u8,
-    stream_xids: &'a mut [u32; 16],
-    stream_changed: &'a mut [u8; 16],
-    rows: &'a mut u16,
-    keys: &'a mut [u64; 256],
-    tags: &'a mut [u64; 256],
-    identities: &'a mut [u8; 256],
-    columns: &'a mut [u16; 256],
-    a: Act,
-    bytes: &[u8],
-    tag: u64,
-) -> Answer
-    ensures { λ r. ⌜ stepped (made version (now (phase .exit)) (now («current_xid» .exit)) (now («final_lsn» .exit)) (now (changed .exit)) (now («stream_xids» .exit)) (now («stream_changed» .exit)) (now (rows .exit)) (now (keys .exit)) (now (tags .exit)) (now (identities .exit)) (now (columns .exit))) r ≡ eventStep (made version (now (phase .entry)) (now («current_xid» .entry)) (now («final_lsn» .entry)) (now (changed .entry)) (now («stream_xids» .entry)) (now («stream_changed» .entry)) (now (rows .entry)) (now (keys .entry)) (now (tags .entry)) (now (identities .entry)) (now (columns .entry))) (eventIn a (now (bytes .entry))) tag ⌝ }
-{
-    let phase_now = *phase;
-    let xid_now = *current_xid;
-    let lsn_now = *final_lsn;
-    let changed_now = *changed;
-    let place = rules::place_of(phase_now, xid_now, lsn_now);
-    let flagged = rules::flag(changed_now);
-    let answer = judging::judge(
-        place,
-        flagged,
-        stream_xids,
-        stream_changed,
-        *rows,
-        keys,
-        tags,
-        identities,
-        columns,
-        a,
-        bytes,
-    );
-    if rules::accepted(answer) {
-        storing::apply(
-            phase,
-            current_xid,
-            final_lsn,
-            changed,
-            stream_xids,
-            stream_changed,
-            rows,
-            keys,
-            tags,
-            identities,
-            columns,
-            a,
-            place,
-            flagged,
-            bytes,
-            tag,
-        );
-    }
-    answer
+// What a Relation announces of its columns.
+struct Shape {
+    identity: u64,
+    columns: u64,
 }
 
-// The same for a change alone.
-fn change_fields<'a>(
-    version: u32,
-    phase: &'a mut u8,
-    current_xid: &'a mut u32,
-    final_lsn: &'a mut u64,
-    changed: &'a mut u8,
-    stream_xids: &'a [u32; 16],
-    stream_changed: &'a mut [u8; 16],
-    rows: &'a mut u16,
+// A message of another kind.
+enum Act {
+    Begin { lsn: u64, xid: u32 },
+    Commit { lsn: u64 },
+    Origin,
+    Relation { oid: u32, shape: Shape },
+    Truncate { count: u32, start: usize, xid: u64 },
+    Neutral,
+    Logical { flags: u64 },
+    StreamStart { xid: u32, first: u64 },
+    StreamStop,
+    StreamCommit { xid: u32 },
+    StreamAbort { xid: u32, sub: u32 },
+}
+
+// What is heard of bytes: reading's refusal, an Insert, Update or Delete, or a message of another kind. Most messages are changes, and a
+// path of their own is shorter.
+enum Looked {
+    Unread { number: u64, offset: usize },
+    Change { oid: u32, xid: u64, tuples: Tuples },
+    Other(Act),
+}
+
+// LOOK: what is heard of bytes, where the head stands.
+fn look(head: Head, bytes: &[u8]) -> Looked
+    ensures { λ r. ⌜ heardIn r (now (bytes .entry)) ≡ hears (versionIn head) (placeIn head) (now (bytes .entry)) ⌝ }
+{
+    let place = rules::place_of(head);
+    let number = head.version;
+    let read = reader::read_message(Version { number }, rules::in_block(place), bytes);
+    match read {
+        Read::Refused(r) => Looked::Unread {
+            number: acts::wide8(r.number),
+            offset: r.offset,
+        },
+        Read::Message(m) => acts::looked_at(m, bytes),
+    }
+}
+
+// Gives a session a change: judge and, where that accepts, apply.
+fn step_change<'a>(
+    head: &'a mut [u64; 6],
+    xids: &'a [u32; 16],
+    marks: &'a mut [u8; 16],
     keys: &'a [u64; 256],
     tags: &'a [u64; 256],
     identities: &'a [u8; 256],
     columns: &'a [u16; 256],
     oid: u32,
-    old: u64,
-    old_count: u64,
-    letter: u64,
-    count: u64,
+    tuples: Tuples,
 ) -> Answer
-    ensures { λ r. ⌜ ((tag : ℕ) → stepped (made version (now (phase .exit)) (now («current_xid» .exit)) (now («final_lsn» .exit)) (now (changed .exit)) (now («stream_xids» .entry)) (now («stream_changed» .exit)) (now (rows .exit)) (now (keys .entry)) (now (tags .entry)) (now (identities .entry)) (now (columns .entry))) r ≡ eventStep (made version (now (phase .entry)) (now («current_xid» .entry)) (now («final_lsn» .entry)) (now (changed .entry)) (now («stream_xids» .entry)) (now («stream_changed» .entry)) (now (rows .entry)) (now (keys .entry)) (now (tags .entry)) (now (identities .entry)) (now (columns .entry))) (Change oid (tuplesOf old «old_count» letter count)) tag) ⌝ }
+    ensures { λ r. ⌜ ((x tag : ℕ) → stepped (sessionOf (now (head .exit)) (now (xids .entry)) (now (marks .exit)) (now (keys .entry)) (now (tags .entry)) (now (identities .entry)) (now (columns .entry))) r ≡ eventStep (sessionOf (now (head .entry)) (now (xids .entry)) (now (marks .entry)) (now (keys .entry)) (now (tags .entry)) (now (identities .entry)) (now (columns .entry))) (Change x oid (tuplesOf tuples)) tag) ⌝ }
 {
-    let phase_now = *phase;
-    let xid_now = *current_xid;
-    let lsn_now = *final_lsn;
-    let changed_now = *changed;
-    let place = rules::place_of(phase_now, xid_now, lsn_now);
-    let flagged = rules::flag(changed_now);
-    let answer = judging::judge_change(
-        place,
-        *rows,
-        keys,
-        tags,
-        identities,
-        columns,
-        oid,
-        old,
-        old_count,
-        letter,
-        count,
-    );
+    let now = heads::head_in(head);
+    let answer = judging::judge_change(now, keys, tags, identities, columns, oid, tuples);
     if rules::accepted(answer) {
-        storing::apply_change(
-            phase,
-            current_xid,
-            final_lsn,
-            changed,
-            stream_xids,
-            stream_changed,
-            rows,
-            keys,
-            tags,
-            identities,
-            columns,
-            place,
-            flagged,
-        );
+        let next = storing::apply_change(now, xids, marks);
+        let version = head[1];
+        *head = heads::words_of(next, version);
     }
     answer
 }
 
-// The choice between the two: most messages are changes, and a path of their own is shorter.
-fn act_fields<'a>(
-    version: u32,
-    phase: &'a mut u8,
-    current_xid: &'a mut u32,
-    final_lsn: &'a mut u64,
-    changed: &'a mut u8,
-    stream_xids: &'a mut [u32; 16],
-    stream_changed: &'a mut [u8; 16],
-    rows: &'a mut u16,
-    keys: &'a mut [u64; 256],
-    tags: &'a mut [u64; 256],
-    identities: &'a mut [u8; 256],
-    columns: &'a mut [u16; 256],
-    a: Act,
-    bytes: &[u8],
-    tag: u64,
-) -> Answer
-    ensures { λ r. ⌜ stepped (made version (now (phase .exit)) (now («current_xid» .exit)) (now («final_lsn» .exit)) (now (changed .exit)) (now («stream_xids» .exit)) (now («stream_changed» .exit)) (now (rows .exit)) (now (keys .exit)) (now (tags .exit)) (now (identities .exit)) (now (columns .exit))) r ≡ eventStep (made version (now (phase .entry)) (now («current_xid» .entry)) (now («final_lsn» .entry)) (now (changed .entry)) (now («stream_xids» .entry)) (now («stream_changed» .entry)) (now (rows .entry)) (now (keys .entry)) (now (tags .entry)) (now (identities .entry)) (now (columns .entry))) (eventIn a (now (bytes .entry))) tag ⌝ }
-{
-    match a {
-        Act::Change {
-            oid,
-            old,
-            old_count,
-            letter,
-            count,
-        } => change_fields(
-            version,
-            phase,
-            current_xid,
-            final_lsn,
-            changed,
-            stream_xids,
-            stream_changed,
-            rows,
-            keys,
-            tags,
-            identities,
-            columns,
-            oid,
-            old,
-            old_count,
-            letter,
-            count,
-        ),
-        _ => judged_fields(
-            version,
-            phase,
-            current_xid,
-            final_lsn,
-            changed,
-            stream_xids,
-            stream_changed,
-            rows,
-            keys,
-            tags,
-            identities,
-            columns,
-            a,
-            bytes,
-            tag,
-        ),
-    }
-}
-
-// Gives a session one message, its bytes and a tag: every field is lent, and this is the one place where a step is coded.
-pub fn step_fields<'a>(
-    version: &'a mut u32,
-    phase: &'a mut u8,
-    current_xid: &'a mut u32,
-    final_lsn: &'a mut u64,
-    changed: &'a mut u8,
-    stream_xids: &'a mut [u32; 16],
-    stream_changed: &'a mut [u8; 16],
-    rows: &'a mut u16,
+// Gives a session one message, its bytes and a tag: look, judge and, where that accepts, apply. Head and arrays are lent; the head's
+// numbers are loaded where they are needed and stored where they change. This is the one place where a step is coded.
+fn step_lent<'a>(
+    head: &'a mut [u64; 6],
+    xids: &'a mut [u32; 16],
+    marks: &'a mut [u8; 16],
     keys: &'a mut [u64; 256],
     tags: &'a mut [u64; 256],
     identities: &'a mut [u8; 256],
@@ -328,38 +185,26 @@ pub fn step_fields<'a>(
     bytes: &[u8],
     tag: u64,
 ) -> Answer
-    ensures { λ r. ⌜ stepped (made (now (version .exit)) (now (phase .exit)) (now («current_xid» .exit)) (now («final_lsn» .exit)) (now (changed .exit)) (now («stream_xids» .exit)) (now («stream_changed» .exit)) (now (rows .exit)) (now (keys .exit)) (now (tags .exit)) (now (identities .exit)) (now (columns .exit))) r ≡ stepOf (made (now (version .entry)) (now (phase .entry)) (now («current_xid» .entry)) (now («final_lsn» .entry)) (now (changed .entry)) (now («stream_xids» .entry)) (now («stream_changed» .entry)) (now (rows .entry)) (now (keys .entry)) (now (tags .entry)) (now (identities .entry)) (now (columns .entry))) (now (bytes .entry)) tag ⌝ }
+    ensures { λ r. ⌜ stepped (sessionOf (now (head .exit)) (now (xids .exit)) (now (marks .exit)) (now (keys .exit)) (now (tags .exit)) (now (identities .exit)) (now (columns .exit))) r ≡ stepOf (sessionOf (now (head .entry)) (now (xids .entry)) (now (marks .entry)) (now (keys .entry)) (now (tags .entry)) (now (identities .entry)) (now (columns .entry))) (now (bytes .entry)) tag ⌝ }
 {
-    let number = *version;
-    let phase_now = *phase;
-    let xid_now = *current_xid;
-    let lsn_now = *final_lsn;
-    let place = rules::place_of(phase_now, xid_now, lsn_now);
-    let read = reader::read_message(Version { number }, rules::in_block(place), bytes);
-    match read {
-        Read::Refused(r) => Answer::Refused {
-            number: r.number,
-            offset: r.offset,
+    let looked = look(heads::head_in(head), bytes);
+    match looked {
+        Looked::Unread { number, offset } => Answer::Refused {
+            number: acts::narrow8(number),
+            offset,
         },
-        Read::Message(m) => {
-            let a = acts::act_of(m, bytes);
-            act_fields(
-                number,
-                phase,
-                current_xid,
-                final_lsn,
-                changed,
-                stream_xids,
-                stream_changed,
-                rows,
-                keys,
-                tags,
-                identities,
-                columns,
-                a,
-                bytes,
-                tag,
-            )
+        Looked::Change { oid, tuples: t, .. } => {
+            step_change(head, xids, marks, keys, tags, identities, columns, oid, t)
+        }
+        Looked::Other(a) => {
+            let now = heads::head_in(head);
+            let answer = judge(now, xids, marks, keys, tags, identities, columns, a, bytes);
+            if rules::accepted(answer) {
+                let next = apply(now, xids, marks, keys, tags, identities, columns, a, tag);
+                let version = head[1];
+                *head = heads::words_of(next, version);
+            }
+            answer
         }
     }
 }
@@ -369,14 +214,9 @@ pub fn start(version: u32) -> Session
     ensures { λ r. ⌜ r ≡ startOf (named version) ⌝ }
 {
     Session {
-        version,
-        phase: Session::IDLE,
-        current_xid: 0,
-        final_lsn: 0,
-        changed: 0,
+        head: [0, acts::wide32(version), 0, 0, 0, 0],
         stream_xids: [0; 16],
         stream_changed: [0; 16],
-        rows: 0,
         keys: [0; 256],
         tags: [0; 256],
         identities: [0; 256],
@@ -395,27 +235,17 @@ pub fn start_default() -> Session
 pub fn step(session: Session, bytes: &[u8], tag: u64) -> Stepped
     ensures { λ r. ⌜ r ≡ stepOf session (now (bytes .entry)) tag ⌝ }
 {
-    let mut version = session.version;
-    let mut phase = session.phase;
-    let mut current_xid = session.current_xid;
-    let mut final_lsn = session.final_lsn;
-    let mut changed = session.changed;
-    let mut stream_xids = session.stream_xids;
-    let mut stream_changed = session.stream_changed;
-    let mut rows = session.rows;
+    let mut head = session.head;
+    let mut xids = session.stream_xids;
+    let mut marks = session.stream_changed;
     let mut keys = session.keys;
     let mut tags = session.tags;
     let mut identities = session.identities;
     let mut columns = session.columns;
-    let answer = step_fields(
-        &mut version,
-        &mut phase,
-        &mut current_xid,
-        &mut final_lsn,
-        &mut changed,
-        &mut stream_xids,
-        &mut stream_changed,
-        &mut rows,
+    let answer = step_lent(
+        &mut head,
+        &mut xids,
+        &mut marks,
         &mut keys,
         &mut tags,
         &mut identities,
@@ -423,23 +253,16 @@ pub fn step(session: Session, bytes: &[u8], tag: u64) -> Stepped
         bytes,
         tag,
     );
-    Stepped {
-        session: Session {
-            version,
-            phase,
-            current_xid,
-            final_lsn,
-            changed,
-            stream_xids,
-            stream_changed,
-            rows,
-            keys,
-            tags,
-            identities,
-            columns,
-        },
-        answer,
-    }
+    let session = Session {
+        head,
+        stream_xids: xids,
+        stream_changed: marks,
+        keys,
+        tags,
+        identities,
+        columns,
+    };
+    Stepped { session, answer }
 }
 
 // Starts a session in the record that is lent.
@@ -462,15 +285,10 @@ pub fn give(session: &mut Session, bytes: &[u8], tag: u64) -> Answer
 pub fn give_lent(session: &mut Session, bytes: &[u8], tag: u64) -> Answer
     ensures { λ r. ⌜ stepped (now (session .exit)) r ≡ stepOf (now (session .entry)) (now (bytes .entry)) tag ⌝ }
 {
-    step_fields(
-        &mut session.version,
-        &mut session.phase,
-        &mut session.current_xid,
-        &mut session.final_lsn,
-        &mut session.changed,
+    step_lent(
+        &mut session.head,
         &mut session.stream_xids,
         &mut session.stream_changed,
-        &mut session.rows,
         &mut session.keys,
         &mut session.tags,
         &mut session.identities,

@@ -2,28 +2,29 @@
 ghost use mathlib.Core.Path.{_≡_};
 ghost use mathlib.Core.Bool.{cond, not, _||_};
 ghost use mathlib.Core.List.{[]};
-ghost use lib.Dec.{eqb};
 ghost use Rattle.session.specs.Events.{tuple};
-ghost use Rattle.session.specs.Rules.{inBlock, holderAt, isFound, test, isIdle, ruleBegin, ruleCommit, ruleOrigin, ruleNeutral, ruleStreamStart, ruleStreamStop, ruleStreamEnd, fits, allFit, shaped, accepts};
-ghost use Rattle.session.specs.Machine.{placeOf};
+ghost use Rattle.session.specs.History.{inBlock, holderAt, isIdle, isAnnounced};
+ghost use Rattle.session.specs.Rules.{test, ruleBegin, ruleCommit, ruleOrigin, ruleNeutral, ruleStreamStart, ruleStreamStop, ruleStreamEnd, fits, allFit, shaped, accepts};
+ghost use Rattle.session.specs.State.{announcedBy};
+ghost use Rattle.session.specs.Machine.{placeIn, flagIn};
 ghost use Rattle.session.specs.Acts.{tuplesOf, answered};
-use crate::Act;
 use crate::Answer;
+use crate::Head;
 use crate::Place;
-use crate::Session;
+use crate::Tuples;
 use crate::acts;
 use catalog::Lookup;
 use message::Relation;
 use wire::Refusal;
 
-pub fn place_of(phase: u8, current: u32, lsn: u64) -> Place
-    ensures { λ r. ⌜ r ≡ placeOf phase current lsn ⌝ }
+pub fn place_of(head: Head) -> Place
+    ensures { λ r. ⌜ r ≡ placeIn head ⌝ }
 {
-    if phase == Session::TRANSACTION {
-        return Place::Transaction(lsn);
+    if head.phase == Head::TRANSACTION {
+        return Place::Transaction(head.final_lsn);
     }
-    if phase == Session::BLOCK {
-        Place::Block(current)
+    if head.phase == Head::BLOCK {
+        Place::Block(head.current_xid)
     } else {
         Place::Idle
     }
@@ -49,13 +50,13 @@ pub fn holder_at(place: Place) -> u32
     }
 }
 
-pub fn flag(b: u8) -> bool
-    ensures { λ r. ⌜ r ≡ not (eqb b 0) ⌝ }
+pub fn flag_of(head: Head) -> bool
+    ensures { λ r. ⌜ r ≡ flagIn head ⌝ }
 {
-    if b == 0 { false } else { true }
+    if head.changed == 0 { false } else { true }
 }
 
-pub fn bit(b: bool) -> u8
+pub fn bit(b: bool) -> u16
     ensures { λ r. ⌜ r ≡ cond b 1 0 ⌝ }
 {
     if b { 1 } else { 0 }
@@ -192,30 +193,23 @@ pub fn tuple_fits(identity: u8, columns: u16, letter: u64, count: u64) -> bool
     if count != acts::wide16(columns) {
         return false;
     }
-    if letter == Act::OLD {
+    if letter == Tuples::OLD {
         return identity == Relation::FULL;
     }
-    if letter == Act::KEY {
+    if letter == Tuples::KEY {
         return identity != Relation::FULL;
     }
     true
 }
 
-pub fn all_fit(
-    identity: u8,
-    columns: u16,
-    old: u64,
-    old_count: u64,
-    letter: u64,
-    count: u64,
-) -> bool
-    ensures { λ r. ⌜ r ≡ allFit identity columns (tuplesOf old «old_count» letter count) ⌝ }
+pub fn all_fit(identity: u8, columns: u16, t: Tuples) -> bool
+    ensures { λ r. ⌜ r ≡ allFit identity columns (tuplesOf t) ⌝ }
 {
-    let fit = tuple_fits(identity, columns, letter, count);
-    if old == 0 {
+    let fit = tuple_fits(identity, columns, t.letter, t.count);
+    if t.old == 0 {
         return fit;
     }
-    if tuple_fits(identity, columns, old, old_count) {
+    if tuple_fits(identity, columns, t.old, t.old_count) {
         fit
     } else {
         false
@@ -223,8 +217,8 @@ pub fn all_fit(
 }
 
 // The answer of a change that sees an announcement, or none.
-pub fn rule_shape(seen: Lookup, old: u64, old_count: u64, letter: u64, count: u64) -> Answer
-    ensures { λ r. ⌜ r ≡ shaped seen (tuplesOf old «old_count» letter count) ⌝ }
+pub fn rule_shape(seen: Lookup, t: Tuples) -> Answer
+    ensures { λ r. ⌜ r ≡ shaped (announcedBy seen) (tuplesOf t) ⌝ }
 {
     match seen {
         Lookup::Missing => Answer::Refused {
@@ -236,7 +230,7 @@ pub fn rule_shape(seen: Lookup, old: u64, old_count: u64, letter: u64, count: u6
             identity,
             columns,
         } => {
-            if all_fit(identity, columns, old, old_count, letter, count) {
+            if all_fit(identity, columns, t) {
                 Answer::Change {
                     tag,
                     identity,
@@ -254,7 +248,7 @@ pub fn rule_shape(seen: Lookup, old: u64, old_count: u64, letter: u64, count: u6
 
 // The answer of a Truncate, all of whose relations are visible or not, from what its first sees.
 pub fn rule_relations(all: bool, first: Lookup) -> Answer
-    ensures { λ r. ⌜ r ≡ test all 9 (shaped first []) ⌝ }
+    ensures { λ r. ⌜ r ≡ test all 9 (shaped (announcedBy first) []) ⌝ }
 {
     if all {
         match first {
@@ -281,7 +275,7 @@ pub fn rule_relations(all: bool, first: Lookup) -> Answer
 }
 
 pub fn is_found(a: Lookup) -> bool
-    ensures { λ r. ⌜ r ≡ isFound a ⌝ }
+    ensures { λ r. ⌜ r ≡ isAnnounced (announcedBy a) ⌝ }
 {
     match a {
         Lookup::Missing => false,

@@ -7,6 +7,7 @@ use crate::moves::Moves;
 use crate::rng::Rng;
 use crate::tally::Tally;
 use kitsoriqu::{Answer, Refusal, Session};
+use std::collections::BTreeSet;
 
 /// What a sequence draws from: so many OIDs and xids; and how likely it is to end a transaction or block, to announce a relation and
 /// to close a stream.
@@ -231,9 +232,17 @@ impl Sessions {
         }
     }
 
+    /// Announces OIDs of no pool: there is room for just those that are not live.
+    fn fill(&mut self) {
+        for n in self.history.live()..=256 {
+            let bytes = Draft::new(b'R').word(0x1000_0000 + n as u32).byte(0).byte(0).byte(b'd').byte(0).byte(0).0;
+            let expected = if n < 256 { (0, [0; 4]) } else { (11, [0; 4]) };
+            assert_eq!(give(&mut self.record, &bytes, 0), expected, "{n} live");
+        }
+    }
+
     /// What each OID names in a transaction and in a block of each open stream, and that the record holds no more.
     fn look_everywhere(mut self, rng: &mut Rng, pool: &Pool) {
-        assert_eq!(usize::from(self.record.value.rows), self.history.live());
         let open = self.history.open();
         let free = (1..).find(|xid| !open.contains(xid)).unwrap();
         let begins = open.iter().map(|&xid| stream_start(xid as u32, false)).chain([begin(rng, free as u32)]);
@@ -243,6 +252,9 @@ impl Sessions {
                 self.look(pool);
             }
         }
+        if self.history.place() != Place::Idle {
+            self.fill();
+        }
         self.record.back();
     }
 }
@@ -250,12 +262,16 @@ impl Sessions {
 /// A sequence of messages, each judged by the library and by the history.
 fn compare(rng: &mut Rng, version: Option<u32>, length: usize, pool: &Pool, tally: &mut Tally, moves: &mut Moves) -> Sessions {
     let mut sessions = Sessions::start(version);
+    let mut live = BTreeSet::new();
     for _ in 0..length {
         let bytes = next(rng, &sessions.history, pool);
         let tag = rng.any() >> rng.below(64);
-        let before = sessions.record.value.clone();
-        tally.note(sessions.give(&bytes, tag));
-        moves.note(&before, &sessions.record.value);
+        let place = sessions.history.place();
+        let number = sessions.give(&bytes, tag);
+        tally.note(number);
+        if number == 0 {
+            moves.note(&mut live, place, &bytes);
+        }
         if rng.one_in(50) {
             sessions.typed = sessions.typed.clone();
         }
@@ -305,46 +321,36 @@ fn room_for_announcements() {
     moves.have_been_everywhere(10);
 }
 
-/// 0, or one of the first OIDs and xids.
-fn few(rng: &mut Rng) -> u32 {
+/// Makes a record up: of one that was driven some bytes are changed, the front ones more often, or a part, or all.
+fn make_up(rng: &mut Rng, record: &mut Record) {
+    let words = &mut record.opaque;
+    let count = words.len() as u64;
     match rng.below(8) {
-        0 => 0,
-        n => spread(n - 1),
-    }
-}
-
-/// Keys in any order or sorted, some of them more than once.
-fn made_up_keys(rng: &mut Rng) -> [u64; 256] {
-    let mut keys = std::array::from_fn(|_| u64::from(few(rng)) << 32 | u64::from(few(rng)));
-    if rng.one_in(2) {
-        keys.sort_unstable();
-    }
-    keys
-}
-
-fn made_up(rng: &mut Rng) -> Record {
-    Record {
-        version: rng.pick(&[1, 2, 2, 2, 3]),
-        phase: rng.byte() & rng.pick(&[3, 255]),
-        current_xid: few(rng),
-        final_lsn: rng.below(3),
-        changed: rng.byte() & 3,
-        stream_xids: std::array::from_fn(|_| few(rng)),
-        stream_changed: std::array::from_fn(|_| rng.byte() & 3),
-        rows: rng.pick(&[0, 1, 7, 200, 255, 256, 257, 0xFFFF]),
-        keys: made_up_keys(rng),
-        tags: std::array::from_fn(|_| rng.any()),
-        identities: std::array::from_fn(|_| rng.pick(b"dnfi\0\xFF")),
-        columns: std::array::from_fn(|_| rng.pick(&[0, 1, 2, 1600, 0xFFFF])),
+        0 => words.iter_mut().for_each(|word| *word = rng.any()),
+        1 | 2 => {
+            let start = rng.below(count) as usize;
+            let end = start + rng.below(count - start as u64) as usize;
+            let any = rng.any();
+            words[start..=end].fill(rng.pick(&[0, 1, any, u64::MAX]));
+        }
+        _ => {
+            for _ in 0..rng.below(200) >> rng.below(8) {
+                let at = rng.below(8 * count) >> rng.below(12);
+                let any = rng.byte();
+                let byte: u64 = rng.pick(&[0, 1, 2, any, 0xFF]).into();
+                let (word, shift) = (&mut words[at as usize / 8], at % 8 * 8);
+                *word = *word & !(0xFF << shift) | byte << shift;
+            }
+        }
     }
 }
 
 /// A message that can be read at the history's place, or one that is damaged.
-fn any_next(rng: &mut Rng, history: &History) -> Vec<u8> {
+fn any_next(rng: &mut Rng, history: &History, pool: &Pool) -> Vec<u8> {
     let mut bytes = match rng.below(4) {
         0 => message(rng, history.in_block()),
-        1 => idle(rng, history, &MIXED).0,
-        _ => inside(rng, history, &MIXED).0,
+        1 => idle(rng, history, pool).0,
+        _ => inside(rng, history, pool).0,
     };
     if rng.one_in(10) {
         damage(rng, &mut bytes);
@@ -352,34 +358,27 @@ fn any_next(rng: &mut Rng, history: &History) -> Vec<u8> {
     bytes
 }
 
-/// The record with no more rows in use than there are.
-fn within(record: &Record) -> Record {
-    Record { rows: record.rows.min(256), ..record.clone() }
-}
-
-/// A record of any numbers is answered, a refusal leaves it as it was, and a count of rows over 256 is one of 256.
+/// A record of any bytes is answered, as is its copy, and a refusal leaves all of them as they were.
 #[test]
 fn made_up_records() {
     let mut rng = Rng::new(34);
     let mut tally = Tally::new();
-    let idling = History::new(2);
-    let mut in_block = History::new(2);
-    assert!(in_block.give(&stream_start(1, true).0, 0).is_ok());
-    for _ in 0..2_000 {
-        let mut record = Lent::of(made_up(&mut rng));
-        let mut counted = Lent::of(within(&record.value));
+    for i in 0..2_000 {
+        let pool = if i % 4 == 0 { &MANY_STREAMS } else { &MIXED };
+        let length = rng.pick(&[0, 20, 60, 300]);
+        let Sessions { mut record, history, .. } = compare(&mut rng, Some(2), length, pool, &mut Tally::new(), &mut Moves::default());
+        make_up(&mut rng, &mut record.value);
         for _ in 0..20 {
-            let history = if record.value.phase == 2 { &in_block } else { &idling };
-            let bytes = any_next(&mut rng, history);
+            let mut copied = Lent::of(record.value.clone());
+            let bytes = any_next(&mut rng, &history, pool);
             let (number, answer) = give(&mut record, &bytes, 1);
             let is_filled = if number != 0 { answer[1..] == [0; 3] } else { answer[0] == 1 || answer == [0; 4] };
             assert!(is_filled, "{number} {answer:?}");
-            assert_eq!(give(&mut counted, &bytes, 1), (number, answer));
-            assert!(within(&record.value) == counted.value);
+            assert_eq!(give(&mut copied, &bytes, 1), (number, answer));
+            assert!(record.value == copied.back());
             tally.note(number);
         }
         record.back();
-        counted.back();
     }
     tally.has_seen(&[0, 1, 2, 3, 4, 5, 6, 7, 8, 9, 10, 11, 12], 1);
 }

@@ -7,12 +7,10 @@ use Rattle.feeds.proofs.give_all.Statement.{statement}
 use Rattle.feeds.proofs.give_all.Tie as tie
 
 abbrev Inv-loop : tie.InvT-loop
-Inv-loop version trace number₀ phase₀ current-xid₀ final-lsn₀ changed₀ stream-xids₀ stream-changed₀ rows₀ keys₀ tags₀ identities₀ columns₀ given₀ accepted₀ at₀ t22 number phase current-xid final-lsn changed stream-xids stream-changed rows keys tags identities columns given accepted at =
-    (at ≤ length trace) × (given ≤ at) × (accepted ≤ given)
+Inv-loop version trace session₀ given₀ accepted₀ at₀ t11 session given accepted at = (at ≤ length trace) × (given ≤ at) × (accepted ≤ given)
 
 abbrev μ-loop : tie.MeasureT-loop
-μ-loop version trace number₀ phase₀ current-xid₀ final-lsn₀ changed₀ stream-xids₀ stream-changed₀ rows₀ keys₀ tags₀ identities₀ columns₀ given₀ accepted₀ at₀ t22 number phase current-xid final-lsn changed stream-xids stream-changed rows keys tags identities columns given accepted at =
-    length trace - at
+μ-loop version trace session₀ given₀ accepted₀ at₀ t11 session given accepted at = length trace - at
 
 start-requires : tie.Need-start-requires Inv-loop μ-loop
 start-requires c κs = tt
@@ -33,49 +31,49 @@ returns : tie.Need-returns Inv-loop μ-loop
 returns c = tt
 
 -- a whole record: it has its head, and lies in the trace
-whole : (c : tie.Else1 Inv-loop μ-loop) → (c .before .before .before .loop .at + 6 ≤ c .before .record-end .result) × (c .before .record-end .result ≤ length (now (c .before .before .before .before .before .before .before .before .before .before .before .before .args .trace)))
+whole : (c : tie.Else1 Inv-loop μ-loop) → (c .before .before .before .loop .at + 6 ≤ c .before .record-end .result) × (c .before .record-end .result ≤ length (now (c .before .before .before .before .before .before .args .trace)))
 whole c = c .before .record-end .ensures (omega arith)
 
 add-start : tie.Need-add-start Inv-loop μ-loop
 add-start c = omega arith
 
-sub-step-fields : tie.Need-sub-step-fields Inv-loop μ-loop
-sub-step-fields c = let w = whole (c .before .before .before .before .before .before .before .before .before .before .before .before) in omega (arith, w .0, w .1)
+sub-step : tie.Need-sub-step Inv-loop μ-loop
+sub-step c = let w = whole c in omega (arith, w .0, w .1)
 
-part-step-fields-start : tie.Need-part-step-fields-start Inv-loop μ-loop
-part-step-fields-start c = let w = whole (c .before .before .before .before .before .before .before .before .before .before .before .before) in omega (arith, w .0, w .1)
+part-step-start : tie.Need-part-step-start Inv-loop μ-loop
+part-step-start c = let w = whole c in omega (arith, w .0, w .1)
 
-part-step-fields-end : tie.Need-part-step-fields-end Inv-loop μ-loop
-part-step-fields-end c = let w = whole (c .before .before .before .before .before .before .before .before .before .before .before .before) in omega (arith, w .0, w .1)
+part-step-end : tie.Need-part-step-end Inv-loop μ-loop
+part-step-end c = let w = whole c in omega (arith, w .0, w .1)
 
-step-fields-requires : tie.Need-step-fields-requires Inv-loop μ-loop
-step-fields-requires c κs = tt
+step-requires : tie.Need-step-requires Inv-loop μ-loop
+step-requires c κs = tt
 
 note-requires : tie.Need-note-requires Inv-loop μ-loop
 note-requires c κs = tt
 
 add-accepted : tie.Need-add-accepted Inv-loop μ-loop
 add-accepted c =
-    let w = whole (c .before .before .before .before .before .before .before .before .before .before .before .before .before .before .before) in
-    let i = c .before .before .before .before .before .before .before .before .before .before .before .before .before .before .before .before .before .before .loop .inv in
+    let w = whole (c .before .before .before .before) in
+    let i = c .before .before .before .before .before .before .before .loop .inv in
     omega (arith, w .0, w .1, i .0, i .1, i .2, c .note .ensures)
 
 add-given : tie.Need-add-given Inv-loop μ-loop
 add-given c =
-    let w = whole (c .before .before .before .before .before .before .before .before .before .before .before .before .before .before .before) in
-    let i = c .before .before .before .before .before .before .before .before .before .before .before .before .before .before .before .before .before .before .loop .inv in
+    let w = whole (c .before .before .before .before) in
+    let i = c .before .before .before .before .before .before .before .loop .inv in
     omega (arith, w .0, w .1, i .0, i .1, i .2, c .note .ensures)
 
 loop-less : tie.Need-loop-less Inv-loop μ-loop
 loop-less c =
-    let w = whole (c .before .before .before .before .before .before .before .before .before .before .before .before .before .before .before) in
-    let i = c .before .before .before .before .before .before .before .before .before .before .before .before .before .before .before .before .before .before .loop .inv in
+    let w = whole (c .before .before .before .before) in
+    let i = c .before .before .before .before .before .before .before .loop .inv in
     omega (arith, w .0, w .1, i .0, i .1, i .2, c .note .ensures)
 
 loop-again : tie.Need-loop-again Inv-loop μ-loop
 loop-again c =
-    let w = whole (c .before .before .before .before .before .before .before .before .before .before .before .before .before .before .before) in
-    let i = c .before .before .before .before .before .before .before .before .before .before .before .before .before .before .before .before .before .before .loop .inv in
+    let w = whole (c .before .before .before .before) in
+    let i = c .before .before .before .before .before .before .before .loop .inv in
     omega (arith, w .0, w .1, i .0, i .1, i .2, c .note .ensures)
 
 returns-2 : tie.Need-returns-2 Inv-loop μ-loop
@@ -94,10 +92,10 @@ give-all-spec =
     print-requires
     returns
     add-start
-    sub-step-fields
-    part-step-fields-start
-    part-step-fields-end
-    step-fields-requires
+    sub-step
+    part-step-start
+    part-step-end
+    step-requires
     note-requires
     add-accepted
     add-given

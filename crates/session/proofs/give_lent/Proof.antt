@@ -1,5 +1,5 @@
--- `session::give_lent` meets its contract: a walk of its MIR, by hand. The borrow is opened, the struct's cell is taken apart into its fields' cells (the law `at-fields`), `version`, `phase`, `current_xid`, `final_lsn`, `changed`, `stream_xids`, `stream_changed`, `rows`, `keys`, `tags`, `identities`, `columns` are lent to `step_fields` for one lifetime that is made for the call; they come back at the values that it left, the cells are put together again, and the borrow is closed at the record with those values.
--- All that the proof knows of `step_fields` is that it meets its contract. Assumes nothing.
+-- `session::give_lent` meets its contract: a walk of its MIR, by hand. The borrow is opened, the struct's cell is taken apart into its fields' cells (the law `at-fields`), `head`, `stream_xids`, `stream_changed`, `keys`, `tags`, `identities`, `columns` are lent to `step_lent` for one lifetime that is made for the call; they come back at the values that it left, the cells are put together again, and the borrow is closed at the record with those values.
+-- All that the proof knows of `step_lent` is that it meets its contract. Assumes nothing.
 use mathlib.Core.Path.{_≡_, refl, sym, ap, subst, _∙_}
 use Prim.Native.Nat.{ℕ, _<_, _+_, _^_}
 use mathlib.Core.List.{[], _∷_, List, map}
@@ -45,17 +45,17 @@ use denote.Triple.Spec.{Meets, tripleOf}
 use denote.Triple.Table.{entered, cited}
 use denote.Triple.Walked.{says, Stays, stay-ref, stay-none, stay-none-slice, walkOf, goes-none, goes-none-slice, goes-ref, Walks, ends-at, walked, walk-meets}
 use denote.Exit.{yes}
-use Rattle.session.specs.Machine.{made, stepped, stepOf}
+use Rattle.session.specs.Machine.{sessionOf, stepped, stepOf}
 use Rattle.session.specs.declared.Session.{Session}
 use Rattle.session.proofs.Session as T
 use Rattle.session.proofs.Session.Laws as T′
 use Rattle.session.specs.declared.Answer.{Answer}
 use Rattle.session.proofs.Answer as R
 use Rattle.session.proofs.Answer.Laws as R′
-use Rattle.session.proofs.step_fields as g
-use Rattle.session.proofs.step_fields.Symbol as g-def
-use Rattle.session.proofs.step_fields.Symbol.{name as #session·step-fields}
-use Rattle.session.proofs.step_fields.Met as g-thm
+use Rattle.session.proofs.step_lent as g
+use Rattle.session.proofs.step_lent.Symbol as g-def
+use Rattle.session.proofs.step_lent.Symbol.{name as #session·step-lent}
+use Rattle.session.proofs.step_lent.Met as g-thm
 use Rattle.session.proofs.give_lent.Key.{name as #session·give-lent}
 use Rattle.session.proofs.give_lent as f
 use Rattle.session.proofs.give_lent.Statement as stated
@@ -77,64 +77,52 @@ arr-u32x16 zs = arrayVal (map (vint w32) zs)
 abbrev arr-u64x256 : List ℕ → Val
 arr-u64x256 zs = arrayVal (map (vint w64) zs)
 
+abbrev arr-u64x6 : List ℕ → Val
+arr-u64x6 zs = arrayVal (map (vint w64) zs)
+
 abbrev arr-u8x16 : List ℕ → Val
 arr-u8x16 zs = arrayVal (map (vint w8) zs)
 
 abbrev arr-u8x256 : List ℕ → Val
 arr-u8x256 zs = arrayVal (map (vint w8) zs)
 
-abbrev with : Session → ℕ → ℕ → ℕ → ℕ → ℕ → List ℕ → List ℕ → ℕ → List ℕ → List ℕ → List ℕ → List ℕ → Session
-with h z0 z1 z2 z3 z4 z5 z6 z7 z8 z9 z10 z11 = record { version = z0; phase = z1; «current_xid» = z2; «final_lsn» = z3; changed = z4; «stream_xids» = z5; «stream_changed» = z6; rows = z7; keys = z8; tags = z9; identities = z10; columns = z11 }
+abbrev with : Session → List ℕ → List ℕ → List ℕ → List ℕ → List ℕ → List ℕ → List ℕ → Session
+with h z0 z1 z2 z3 z4 z5 z6 = record { head = z0; «stream_xids» = z1; «stream_changed» = z2; keys = z3; tags = z4; identities = z5; columns = z6 }
 
-with-is : (h : Session) (z0 : ℕ) (z1 : ℕ) (z2 : ℕ) (z3 : ℕ) (z4 : ℕ) (z5 : List ℕ) (z6 : List ℕ) (z7 : ℕ) (z8 : List ℕ) (z9 : List ℕ) (z10 : List ℕ) (z11 : List ℕ) (y0 : ℕ) (y1 : ℕ) (y2 : ℕ) (y3 : ℕ) (y4 : ℕ) (y5 : List ℕ) (y6 : List ℕ) (y7 : ℕ) (y8 : List ℕ) (y9 : List ℕ) (y10 : List ℕ) (y11 : List ℕ) → z0 ≡ y0 → z1 ≡ y1 → z2 ≡ y2 → z3 ≡ y3 → z4 ≡ y4 → z5 ≡ y5 → z6 ≡ y6 → z7 ≡ y7 → z8 ≡ y8 → z9 ≡ y9 → z10 ≡ y10 → z11 ≡ y11 → with h z0 z1 z2 z3 z4 z5 z6 z7 z8 z9 z10 z11 ≡ with h y0 y1 y2 y3 y4 y5 y6 y7 y8 y9 y10 y11
-with-is h z0 z1 z2 z3 z4 z5 z6 z7 z8 z9 z10 z11 y0 y1 y2 y3 y4 y5 y6 y7 y8 y9 y10 y11 e0 e1 e2 e3 e4 e5 e6 e7 e8 e9 e10 e11 = ap (λ (t : ℕ). with h t z1 z2 z3 z4 z5 z6 z7 z8 z9 z10 z11) e0 ∙ (ap (λ (t : ℕ). with h y0 t z2 z3 z4 z5 z6 z7 z8 z9 z10 z11) e1 ∙ (ap (λ (t : ℕ). with h y0 y1 t z3 z4 z5 z6 z7 z8 z9 z10 z11) e2 ∙ (ap (λ (t : ℕ). with h y0 y1 y2 t z4 z5 z6 z7 z8 z9 z10 z11) e3 ∙ (ap (λ (t : ℕ). with h y0 y1 y2 y3 t z5 z6 z7 z8 z9 z10 z11) e4 ∙ (ap (λ (t : List ℕ). with h y0 y1 y2 y3 y4 t z6 z7 z8 z9 z10 z11) e5 ∙ (ap (λ (t : List ℕ). with h y0 y1 y2 y3 y4 y5 t z7 z8 z9 z10 z11) e6 ∙ (ap (λ (t : ℕ). with h y0 y1 y2 y3 y4 y5 y6 t z8 z9 z10 z11) e7 ∙ (ap (λ (t : List ℕ). with h y0 y1 y2 y3 y4 y5 y6 y7 t z9 z10 z11) e8 ∙ (ap (λ (t : List ℕ). with h y0 y1 y2 y3 y4 y5 y6 y7 y8 t z10 z11) e9 ∙ (ap (λ (t : List ℕ). with h y0 y1 y2 y3 y4 y5 y6 y7 y8 y9 t z11) e10 ∙ (ap (λ (t : List ℕ). with h y0 y1 y2 y3 y4 y5 y6 y7 y8 y9 y10 t) e11)))))))))))
+with-is : (h : Session) (z0 : List ℕ) (z1 : List ℕ) (z2 : List ℕ) (z3 : List ℕ) (z4 : List ℕ) (z5 : List ℕ) (z6 : List ℕ) (y0 : List ℕ) (y1 : List ℕ) (y2 : List ℕ) (y3 : List ℕ) (y4 : List ℕ) (y5 : List ℕ) (y6 : List ℕ) → z0 ≡ y0 → z1 ≡ y1 → z2 ≡ y2 → z3 ≡ y3 → z4 ≡ y4 → z5 ≡ y5 → z6 ≡ y6 → with h z0 z1 z2 z3 z4 z5 z6 ≡ with h y0 y1 y2 y3 y4 y5 y6
+with-is h z0 z1 z2 z3 z4 z5 z6 y0 y1 y2 y3 y4 y5 y6 e0 e1 e2 e3 e4 e5 e6 = ap (λ (t : List ℕ). with h t z1 z2 z3 z4 z5 z6) e0 ∙ (ap (λ (t : List ℕ). with h y0 t z2 z3 z4 z5 z6) e1 ∙ (ap (λ (t : List ℕ). with h y0 y1 t z3 z4 z5 z6) e2 ∙ (ap (λ (t : List ℕ). with h y0 y1 y2 t z4 z5 z6) e3 ∙ (ap (λ (t : List ℕ). with h y0 y1 y2 y3 t z5 z6) e4 ∙ (ap (λ (t : List ℕ). with h y0 y1 y2 y3 y4 t z6) e5 ∙ (ap (λ (t : List ℕ). with h y0 y1 y2 y3 y4 y5 t) e6))))))
 
 -- a struct's row has `map (λ v. v)` of an array field's list
 ids : (zs : List ℕ) → map (λ (v : ℕ). v) zs ≡ zs
 ids [] = refl
 ids (z ∷ zs) = ap (λ (l : List ℕ). z ∷ l) (ids zs)
 
-is-version : (h : Session) (vs : List Val) → Is T.the-row h vs → Is u32 (h .version) ((vint w32 (h .version)) ∷ [])
-is-version h vs is = LL.owed T.the-type T′.the-laws h vs is .0
-
-is-phase : (h : Session) (vs : List Val) → Is T.the-row h vs → Is u8 (h .phase) ((vint w8 (h .phase)) ∷ [])
-is-phase h vs is = LL.owed T.the-type T′.the-laws h vs is .1 .0
-
-is-current-xid : (h : Session) (vs : List Val) → Is T.the-row h vs → Is u32 (h .«current_xid») ((vint w32 (h .«current_xid»)) ∷ [])
-is-current-xid h vs is = LL.owed T.the-type T′.the-laws h vs is .1 .1 .0
-
-is-final-lsn : (h : Session) (vs : List Val) → Is T.the-row h vs → Is u64 (h .«final_lsn») ((vint w64 (h .«final_lsn»)) ∷ [])
-is-final-lsn h vs is = LL.owed T.the-type T′.the-laws h vs is .1 .1 .1 .0
-
-is-changed : (h : Session) (vs : List Val) → Is T.the-row h vs → Is u8 (h .changed) ((vint w8 (h .changed)) ∷ [])
-is-changed h vs is = LL.owed T.the-type T′.the-laws h vs is .1 .1 .1 .1 .0
+is-head : (h : Session) (vs : List Val) → Is T.the-row h vs → Is (Array u64 6) (h .head) ((arr-u64x6 (h .head)) ∷ [])
+is-head h vs is = subst (λ (zs : List ℕ). Is (Array u64 6) zs ((arr-u64x6 zs) ∷ [])) (ids (h .head)) (LL.owed T.the-type T′.the-laws h vs is .0)
 
 is-stream-xids : (h : Session) (vs : List Val) → Is T.the-row h vs → Is (Array u32 16) (h .«stream_xids») ((arr-u32x16 (h .«stream_xids»)) ∷ [])
-is-stream-xids h vs is = subst (λ (zs : List ℕ). Is (Array u32 16) zs ((arr-u32x16 zs) ∷ [])) (ids (h .«stream_xids»)) (LL.owed T.the-type T′.the-laws h vs is .1 .1 .1 .1 .1 .0)
+is-stream-xids h vs is = subst (λ (zs : List ℕ). Is (Array u32 16) zs ((arr-u32x16 zs) ∷ [])) (ids (h .«stream_xids»)) (LL.owed T.the-type T′.the-laws h vs is .1 .0)
 
 is-stream-changed : (h : Session) (vs : List Val) → Is T.the-row h vs → Is (Array u8 16) (h .«stream_changed») ((arr-u8x16 (h .«stream_changed»)) ∷ [])
-is-stream-changed h vs is = subst (λ (zs : List ℕ). Is (Array u8 16) zs ((arr-u8x16 zs) ∷ [])) (ids (h .«stream_changed»)) (LL.owed T.the-type T′.the-laws h vs is .1 .1 .1 .1 .1 .1 .0)
-
-is-rows : (h : Session) (vs : List Val) → Is T.the-row h vs → Is u16 (h .rows) ((vint w16 (h .rows)) ∷ [])
-is-rows h vs is = LL.owed T.the-type T′.the-laws h vs is .1 .1 .1 .1 .1 .1 .1 .0
+is-stream-changed h vs is = subst (λ (zs : List ℕ). Is (Array u8 16) zs ((arr-u8x16 zs) ∷ [])) (ids (h .«stream_changed»)) (LL.owed T.the-type T′.the-laws h vs is .1 .1 .0)
 
 is-keys : (h : Session) (vs : List Val) → Is T.the-row h vs → Is (Array u64 256) (h .keys) ((arr-u64x256 (h .keys)) ∷ [])
-is-keys h vs is = subst (λ (zs : List ℕ). Is (Array u64 256) zs ((arr-u64x256 zs) ∷ [])) (ids (h .keys)) (LL.owed T.the-type T′.the-laws h vs is .1 .1 .1 .1 .1 .1 .1 .1 .0)
+is-keys h vs is = subst (λ (zs : List ℕ). Is (Array u64 256) zs ((arr-u64x256 zs) ∷ [])) (ids (h .keys)) (LL.owed T.the-type T′.the-laws h vs is .1 .1 .1 .0)
 
 is-tags : (h : Session) (vs : List Val) → Is T.the-row h vs → Is (Array u64 256) (h .tags) ((arr-u64x256 (h .tags)) ∷ [])
-is-tags h vs is = subst (λ (zs : List ℕ). Is (Array u64 256) zs ((arr-u64x256 zs) ∷ [])) (ids (h .tags)) (LL.owed T.the-type T′.the-laws h vs is .1 .1 .1 .1 .1 .1 .1 .1 .1 .0)
+is-tags h vs is = subst (λ (zs : List ℕ). Is (Array u64 256) zs ((arr-u64x256 zs) ∷ [])) (ids (h .tags)) (LL.owed T.the-type T′.the-laws h vs is .1 .1 .1 .1 .0)
 
 is-identities : (h : Session) (vs : List Val) → Is T.the-row h vs → Is (Array u8 256) (h .identities) ((arr-u8x256 (h .identities)) ∷ [])
-is-identities h vs is = subst (λ (zs : List ℕ). Is (Array u8 256) zs ((arr-u8x256 zs) ∷ [])) (ids (h .identities)) (LL.owed T.the-type T′.the-laws h vs is .1 .1 .1 .1 .1 .1 .1 .1 .1 .1 .0)
+is-identities h vs is = subst (λ (zs : List ℕ). Is (Array u8 256) zs ((arr-u8x256 zs) ∷ [])) (ids (h .identities)) (LL.owed T.the-type T′.the-laws h vs is .1 .1 .1 .1 .1 .0)
 
 is-columns : (h : Session) (vs : List Val) → Is T.the-row h vs → Is (Array u16 256) (h .columns) ((arr-u16x256 (h .columns)) ∷ [])
-is-columns h vs is = subst (λ (zs : List ℕ). Is (Array u16 256) zs ((arr-u16x256 zs) ∷ [])) (ids (h .columns)) (LL.owed T.the-type T′.the-laws h vs is .1 .1 .1 .1 .1 .1 .1 .1 .1 .1 .1 .0)
+is-columns h vs is = subst (λ (zs : List ℕ). Is (Array u16 256) zs ((arr-u16x256 zs) ∷ [])) (ids (h .columns)) (LL.owed T.the-type T′.the-laws h vs is .1 .1 .1 .1 .1 .1 .0)
 
-owes-made : (h : Session) (vs : List Val) → Is T.the-row h vs → (z0 : ℕ) (z1 : ℕ) (z2 : ℕ) (z3 : ℕ) (z4 : ℕ) (z5 : List ℕ) (z6 : List ℕ) (z7 : ℕ) (z8 : List ℕ) (z9 : List ℕ) (z10 : List ℕ) (z11 : List ℕ) → Is u32 z0 ((vint w32 z0) ∷ []) → Is u8 z1 ((vint w8 z1) ∷ []) → Is u32 z2 ((vint w32 z2) ∷ []) → Is u64 z3 ((vint w64 z3) ∷ []) → Is u8 z4 ((vint w8 z4) ∷ []) → Is (Array u32 16) z5 ((arr-u32x16 z5) ∷ []) → Is (Array u8 16) z6 ((arr-u8x16 z6) ∷ []) → Is u16 z7 ((vint w16 z7) ∷ []) → Is (Array u64 256) z8 ((arr-u64x256 z8) ∷ []) → Is (Array u64 256) z9 ((arr-u64x256 z9) ∷ []) → Is (Array u8 256) z10 ((arr-u8x256 z10) ∷ []) → Is (Array u16 256) z11 ((arr-u16x256 z11) ∷ []) → Is T.the-row (with h z0 z1 z2 z3 z4 z5 z6 z7 z8 z9 z10 z11) (LL.vals T.the-type T′.the-laws (with h z0 z1 z2 z3 z4 z5 z6 z7 z8 z9 z10 z11))
-owes-made h vs is z0 z1 z2 z3 z4 z5 z6 z7 z8 z9 z10 z11 is0 is1 is2 is3 is4 is5 is6 is7 is8 is9 is10 is11 = LL.owes T.the-type T′.the-laws (with h z0 z1 z2 z3 z4 z5 z6 z7 z8 z9 z10 z11) (is0, (is1, (is2, (is3, (is4, (subst (λ (ys : List ℕ). Is (Array u32 16) ys ((arr-u32x16 ys) ∷ [])) (sym (ids z5)) is5, (subst (λ (ys : List ℕ). Is (Array u8 16) ys ((arr-u8x16 ys) ∷ [])) (sym (ids z6)) is6, (is7, (subst (λ (ys : List ℕ). Is (Array u64 256) ys ((arr-u64x256 ys) ∷ [])) (sym (ids z8)) is8, (subst (λ (ys : List ℕ). Is (Array u64 256) ys ((arr-u64x256 ys) ∷ [])) (sym (ids z9)) is9, (subst (λ (ys : List ℕ). Is (Array u8 256) ys ((arr-u8x256 ys) ∷ [])) (sym (ids z10)) is10, (subst (λ (ys : List ℕ). Is (Array u16 256) ys ((arr-u16x256 ys) ∷ [])) (sym (ids z11)) is11, LL.owed T.the-type T′.the-laws h vs is .1 .1 .1 .1 .1 .1 .1 .1 .1 .1 .1 .1))))))))))))
+owes-made : (h : Session) (vs : List Val) → Is T.the-row h vs → (z0 : List ℕ) (z1 : List ℕ) (z2 : List ℕ) (z3 : List ℕ) (z4 : List ℕ) (z5 : List ℕ) (z6 : List ℕ) → Is (Array u64 6) z0 ((arr-u64x6 z0) ∷ []) → Is (Array u32 16) z1 ((arr-u32x16 z1) ∷ []) → Is (Array u8 16) z2 ((arr-u8x16 z2) ∷ []) → Is (Array u64 256) z3 ((arr-u64x256 z3) ∷ []) → Is (Array u64 256) z4 ((arr-u64x256 z4) ∷ []) → Is (Array u8 256) z5 ((arr-u8x256 z5) ∷ []) → Is (Array u16 256) z6 ((arr-u16x256 z6) ∷ []) → Is T.the-row (with h z0 z1 z2 z3 z4 z5 z6) (LL.vals T.the-type T′.the-laws (with h z0 z1 z2 z3 z4 z5 z6))
+owes-made h vs is z0 z1 z2 z3 z4 z5 z6 is0 is1 is2 is3 is4 is5 is6 = LL.owes T.the-type T′.the-laws (with h z0 z1 z2 z3 z4 z5 z6) (subst (λ (ys : List ℕ). Is (Array u64 6) ys ((arr-u64x6 ys) ∷ [])) (sym (ids z0)) is0, (subst (λ (ys : List ℕ). Is (Array u32 16) ys ((arr-u32x16 ys) ∷ [])) (sym (ids z1)) is1, (subst (λ (ys : List ℕ). Is (Array u8 16) ys ((arr-u8x16 ys) ∷ [])) (sym (ids z2)) is2, (subst (λ (ys : List ℕ). Is (Array u64 256) ys ((arr-u64x256 ys) ∷ [])) (sym (ids z3)) is3, (subst (λ (ys : List ℕ). Is (Array u64 256) ys ((arr-u64x256 ys) ∷ [])) (sym (ids z4)) is4, (subst (λ (ys : List ℕ). Is (Array u8 256) ys ((arr-u8x256 ys) ∷ [])) (sym (ids z5)) is5, (subst (λ (ys : List ℕ). Is (Array u16 256) ys ((arr-u16x256 ys) ∷ [])) (sym (ids z6)) is6, LL.owed T.the-type T′.the-laws h vs is .1 .1 .1 .1 .1 .1 .1)))))))
 
-is-made : (h : Session) (vs : List Val) → Is T.the-row h vs → (z0 : ℕ) (z1 : ℕ) (z2 : ℕ) (z3 : ℕ) (z4 : ℕ) (z5 : List ℕ) (z6 : List ℕ) (z7 : ℕ) (z8 : List ℕ) (z9 : List ℕ) (z10 : List ℕ) (z11 : List ℕ) → Is u32 z0 ((vint w32 z0) ∷ []) → Is u8 z1 ((vint w8 z1) ∷ []) → Is u32 z2 ((vint w32 z2) ∷ []) → Is u64 z3 ((vint w64 z3) ∷ []) → Is u8 z4 ((vint w8 z4) ∷ []) → Is (Array u32 16) z5 ((arr-u32x16 z5) ∷ []) → Is (Array u8 16) z6 ((arr-u8x16 z6) ∷ []) → Is u16 z7 ((vint w16 z7) ∷ []) → Is (Array u64 256) z8 ((arr-u64x256 z8) ∷ []) → Is (Array u64 256) z9 ((arr-u64x256 z9) ∷ []) → Is (Array u8 256) z10 ((arr-u8x256 z10) ∷ []) → Is (Array u16 256) z11 ((arr-u16x256 z11) ∷ []) → Is T.the-row (with h z0 z1 z2 z3 z4 z5 z6 z7 z8 z9 z10 z11) (T′.lowered (with h z0 z1 z2 z3 z4 z5 z6 z7 z8 z9 z10 z11) ∷ [])
-is-made h vs is z0 z1 z2 z3 z4 z5 z6 z7 z8 z9 z10 z11 is0 is1 is2 is3 is4 is5 is6 is7 is8 is9 is10 is11 = subst (Is T.the-row (with h z0 z1 z2 z3 z4 z5 z6 z7 z8 z9 z10 z11)) (T′.lowers .val-is (with h z0 z1 z2 z3 z4 z5 z6 z7 z8 z9 z10 z11) _ (owes-made h vs is z0 z1 z2 z3 z4 z5 z6 z7 z8 z9 z10 z11 is0 is1 is2 is3 is4 is5 is6 is7 is8 is9 is10 is11)) (owes-made h vs is z0 z1 z2 z3 z4 z5 z6 z7 z8 z9 z10 z11 is0 is1 is2 is3 is4 is5 is6 is7 is8 is9 is10 is11)
+is-made : (h : Session) (vs : List Val) → Is T.the-row h vs → (z0 : List ℕ) (z1 : List ℕ) (z2 : List ℕ) (z3 : List ℕ) (z4 : List ℕ) (z5 : List ℕ) (z6 : List ℕ) → Is (Array u64 6) z0 ((arr-u64x6 z0) ∷ []) → Is (Array u32 16) z1 ((arr-u32x16 z1) ∷ []) → Is (Array u8 16) z2 ((arr-u8x16 z2) ∷ []) → Is (Array u64 256) z3 ((arr-u64x256 z3) ∷ []) → Is (Array u64 256) z4 ((arr-u64x256 z4) ∷ []) → Is (Array u8 256) z5 ((arr-u8x256 z5) ∷ []) → Is (Array u16 256) z6 ((arr-u16x256 z6) ∷ []) → Is T.the-row (with h z0 z1 z2 z3 z4 z5 z6) (T′.lowered (with h z0 z1 z2 z3 z4 z5 z6) ∷ [])
+is-made h vs is z0 z1 z2 z3 z4 z5 z6 is0 is1 is2 is3 is4 is5 is6 = subst (Is T.the-row (with h z0 z1 z2 z3 z4 z5 z6)) (T′.lowers .val-is (with h z0 z1 z2 z3 z4 z5 z6) _ (owes-made h vs is z0 z1 z2 z3 z4 z5 z6 is0 is1 is2 is3 is4 is5 is6)) (owes-made h vs is z0 z1 z2 z3 z4 z5 z6 is0 is1 is2 is3 is4 is5 is6)
 
 module _ {M : Type 1} (𝓤 : URA M) (H : Heap 𝓤) (A : Atoms 𝓤) (at-mem : Memory → SProp 𝓤) (run : Routine → Fun 𝓤) where
   -- the contract that the proof cites
@@ -143,29 +131,13 @@ module _ {M : Type 1} (𝓤 : URA M) (H : Heap 𝓤) (A : Atoms 𝓤) (at-mem : 
 
 -- ---- a field in memory: its cell and what it owns
 module _ {M : Type 1} (𝓤 : URA M) (H : Heap 𝓤) (A : Atoms 𝓤) (W : Given 𝓤 H A) (b p : ℕ) where
-  in-u32 : (z : ℕ) → ent 𝓤 (sep 𝓤 (H .at fullShare (tyInt w32) b p (vint w32 z)) (sem 𝓤 H A (u32 .own z ((vint w32 z) ∷ [])))) (sem 𝓤 H A (mem u32 .lies z b p))
+  in-u64x6 : (z : List ℕ) → ent 𝓤 (sep 𝓤 (H .at fullShare (tyArray (tyInt w64) 6) b p (arr-u64x6 z)) (sem 𝓤 H A ((Array u64 6) .own z ((arr-u64x6 z) ∷ [])))) (sem 𝓤 H A (mem (Array u64 6) .lies z b p))
   unfolding partOf
-  in-u32 z = qed W (‵ (fat fullShare (tyInt w32) b p (vint w32 z)) ∷ ‵ (u32 .own z ((vint w32 z) ∷ [])) ∷ []) ∵ fjoin ! $ fpack ! (List Val) (λ vs. fsep (cellAt fullShare (u32 .mir) vs b p) (u32 .own z vs)) ((vint w32 z) ∷ []) $ done !
+  in-u64x6 z = qed W (‵ (fat fullShare (tyArray (tyInt w64) 6) b p (arr-u64x6 z)) ∷ ‵ ((Array u64 6) .own z ((arr-u64x6 z) ∷ [])) ∷ []) ∵ fjoin ! $ fpack ! (List Val) (λ vs. fsep (cellAt fullShare ((Array u64 6) .mir) vs b p) ((Array u64 6) .own z vs)) ((arr-u64x6 z) ∷ []) $ done !
 
-  out-u32 : (z : ℕ) → ent 𝓤 (sem 𝓤 H A (mem u32 .lies z b p)) (sep 𝓤 (H .at fullShare (tyInt w32) b p (vint w32 z)) (sem 𝓤 H A (u32 .own z ((vint w32 z) ∷ []))))
+  out-u64x6 : (z : List ℕ) → ent 𝓤 (sem 𝓤 H A (mem (Array u64 6) .lies z b p)) (sep 𝓤 (H .at fullShare (tyArray (tyInt w64) 6) b p (arr-u64x6 z)) (sem 𝓤 H A ((Array u64 6) .own z ((arr-u64x6 z) ∷ []))))
   unfolding partOf
-  out-u32 z = qed W (‵ (mem u32 .lies z b p) ∷ []) ∵ fpick ! (λ vs. fsplit ! $ spelt ! u32 (Is u32) (shows 𝓤 H A u32) (λ y. (vint w32 y) ∷ []) (uint-tells w32) fullShare z vs b p $ done !)
-
-  in-u8 : (z : ℕ) → ent 𝓤 (sep 𝓤 (H .at fullShare (tyInt w8) b p (vint w8 z)) (sem 𝓤 H A (u8 .own z ((vint w8 z) ∷ [])))) (sem 𝓤 H A (mem u8 .lies z b p))
-  unfolding partOf
-  in-u8 z = qed W (‵ (fat fullShare (tyInt w8) b p (vint w8 z)) ∷ ‵ (u8 .own z ((vint w8 z) ∷ [])) ∷ []) ∵ fjoin ! $ fpack ! (List Val) (λ vs. fsep (cellAt fullShare (u8 .mir) vs b p) (u8 .own z vs)) ((vint w8 z) ∷ []) $ done !
-
-  out-u8 : (z : ℕ) → ent 𝓤 (sem 𝓤 H A (mem u8 .lies z b p)) (sep 𝓤 (H .at fullShare (tyInt w8) b p (vint w8 z)) (sem 𝓤 H A (u8 .own z ((vint w8 z) ∷ []))))
-  unfolding partOf
-  out-u8 z = qed W (‵ (mem u8 .lies z b p) ∷ []) ∵ fpick ! (λ vs. fsplit ! $ spelt ! u8 (Is u8) (shows 𝓤 H A u8) (λ y. (vint w8 y) ∷ []) (uint-tells w8) fullShare z vs b p $ done !)
-
-  in-u64 : (z : ℕ) → ent 𝓤 (sep 𝓤 (H .at fullShare (tyInt w64) b p (vint w64 z)) (sem 𝓤 H A (u64 .own z ((vint w64 z) ∷ [])))) (sem 𝓤 H A (mem u64 .lies z b p))
-  unfolding partOf
-  in-u64 z = qed W (‵ (fat fullShare (tyInt w64) b p (vint w64 z)) ∷ ‵ (u64 .own z ((vint w64 z) ∷ [])) ∷ []) ∵ fjoin ! $ fpack ! (List Val) (λ vs. fsep (cellAt fullShare (u64 .mir) vs b p) (u64 .own z vs)) ((vint w64 z) ∷ []) $ done !
-
-  out-u64 : (z : ℕ) → ent 𝓤 (sem 𝓤 H A (mem u64 .lies z b p)) (sep 𝓤 (H .at fullShare (tyInt w64) b p (vint w64 z)) (sem 𝓤 H A (u64 .own z ((vint w64 z) ∷ []))))
-  unfolding partOf
-  out-u64 z = qed W (‵ (mem u64 .lies z b p) ∷ []) ∵ fpick ! (λ vs. fsplit ! $ spelt ! u64 (Is u64) (shows 𝓤 H A u64) (λ y. (vint w64 y) ∷ []) (uint-tells w64) fullShare z vs b p $ done !)
+  out-u64x6 z = qed W (‵ (mem (Array u64 6) .lies z b p) ∷ []) ∵ fpick ! (λ vs. fsplit ! $ spelt ! (Array u64 6) (Is (Array u64 6)) (shows 𝓤 H A (Array u64 6)) (λ y. (arr-u64x6 y) ∷ []) (array-tells u64 (λ y. vint w64 y ∷ []) (uint-tells w64) 6) fullShare z vs b p $ done !)
 
   in-u32x16 : (z : List ℕ) → ent 𝓤 (sep 𝓤 (H .at fullShare (tyArray (tyInt w32) 16) b p (arr-u32x16 z)) (sem 𝓤 H A ((Array u32 16) .own z ((arr-u32x16 z) ∷ [])))) (sem 𝓤 H A (mem (Array u32 16) .lies z b p))
   unfolding partOf
@@ -182,14 +154,6 @@ module _ {M : Type 1} (𝓤 : URA M) (H : Heap 𝓤) (A : Atoms 𝓤) (W : Given
   out-u8x16 : (z : List ℕ) → ent 𝓤 (sem 𝓤 H A (mem (Array u8 16) .lies z b p)) (sep 𝓤 (H .at fullShare (tyArray (tyInt w8) 16) b p (arr-u8x16 z)) (sem 𝓤 H A ((Array u8 16) .own z ((arr-u8x16 z) ∷ []))))
   unfolding partOf
   out-u8x16 z = qed W (‵ (mem (Array u8 16) .lies z b p) ∷ []) ∵ fpick ! (λ vs. fsplit ! $ spelt ! (Array u8 16) (Is (Array u8 16)) (shows 𝓤 H A (Array u8 16)) (λ y. (arr-u8x16 y) ∷ []) (array-tells u8 (λ y. vint w8 y ∷ []) (uint-tells w8) 16) fullShare z vs b p $ done !)
-
-  in-u16 : (z : ℕ) → ent 𝓤 (sep 𝓤 (H .at fullShare (tyInt w16) b p (vint w16 z)) (sem 𝓤 H A (u16 .own z ((vint w16 z) ∷ [])))) (sem 𝓤 H A (mem u16 .lies z b p))
-  unfolding partOf
-  in-u16 z = qed W (‵ (fat fullShare (tyInt w16) b p (vint w16 z)) ∷ ‵ (u16 .own z ((vint w16 z) ∷ [])) ∷ []) ∵ fjoin ! $ fpack ! (List Val) (λ vs. fsep (cellAt fullShare (u16 .mir) vs b p) (u16 .own z vs)) ((vint w16 z) ∷ []) $ done !
-
-  out-u16 : (z : ℕ) → ent 𝓤 (sem 𝓤 H A (mem u16 .lies z b p)) (sep 𝓤 (H .at fullShare (tyInt w16) b p (vint w16 z)) (sem 𝓤 H A (u16 .own z ((vint w16 z) ∷ []))))
-  unfolding partOf
-  out-u16 z = qed W (‵ (mem u16 .lies z b p) ∷ []) ∵ fpick ! (λ vs. fsplit ! $ spelt ! u16 (Is u16) (shows 𝓤 H A u16) (λ y. (vint w16 y) ∷ []) (uint-tells w16) fullShare z vs b p $ done !)
 
   in-u64x256 : (z : List ℕ) → ent 𝓤 (sep 𝓤 (H .at fullShare (tyArray (tyInt w64) 256) b p (arr-u64x256 z)) (sem 𝓤 H A ((Array u64 256) .own z ((arr-u64x256 z) ∷ [])))) (sem 𝓤 H A (mem (Array u64 256) .lies z b p))
   unfolding partOf
@@ -226,15 +190,15 @@ module _ {M : Type 1} (𝓤 : URA M) (H : Heap 𝓤) (A : Atoms 𝓤) (W : Given
   Post = walkOf 𝓤 H A f.ended stayed (f.clauses 𝓤 H A at-mem run) .post (((κ, (κ′, tt)), (q, (q′, tt)), bounds, x, at-args), tt)
 
   -- the machine's values of the fields, with others at those that are lent
-  abbrev vals : Val → Val → Val → Val → Val → Val → Val → Val → Val → Val → Val → Val → Vals
-  vals a0 a1 a2 a3 a4 a5 a6 a7 a8 a9 a10 a11 = (vcons a0 (vcons a1 (vcons a2 (vcons a3 (vcons a4 (vcons a5 (vcons a6 (vcons a7 (vcons a8 (vcons a9 (vcons a10 (vcons a11 vnil))))))))))))
+  abbrev vals : Val → Val → Val → Val → Val → Val → Val → Vals
+  vals a0 a1 a2 a3 a4 a5 a6 = (vcons a0 (vcons a1 (vcons a2 (vcons a3 (vcons a4 (vcons a5 (vcons a6 vnil)))))))
 
-  abbrev mach : Val → Val → Val → Val → Val → Val → Val → Val → Val → Val → Val → Val → Val
-  mach a0 a1 a2 a3 a4 a5 a6 a7 a8 a9 a10 a11 = vstruct (vals a0 a1 a2 a3 a4 a5 a6 a7 a8 a9 a10 a11)
+  abbrev mach : Val → Val → Val → Val → Val → Val → Val → Val
+  mach a0 a1 a2 a3 a4 a5 a6 = vstruct (vals a0 a1 a2 a3 a4 a5 a6)
 
   -- the fields' cells, side by side; the way back to the struct's cell
   abbrev tys : Tys
-  tys = tcons (tyInt w32) (tcons (tyInt w8) (tcons (tyInt w32) (tcons (tyInt w64) (tcons (tyInt w8) (tcons (tyArray (tyInt w32) 16) (tcons (tyArray (tyInt w8) 16) (tcons (tyInt w16) (tcons (tyArray (tyInt w64) 256) (tcons (tyArray (tyInt w64) 256) (tcons (tyArray (tyInt w8) 256) (tcons (tyArray (tyInt w16) 256) (tnil))))))))))))
+  tys = tcons (tyArray (tyInt w64) 6) (tcons (tyArray (tyInt w32) 16) (tcons (tyArray (tyInt w8) 16) (tcons (tyArray (tyInt w64) 256) (tcons (tyArray (tyInt w64) 256) (tcons (tyArray (tyInt w8) 256) (tcons (tyArray (tyInt w16) 256) (tnil)))))))
 
   abbrev Fs : Vals → SProp 𝓤
   Fs us = fieldsAt 𝓤 H fullShare tys 0 b o us
@@ -249,174 +213,139 @@ module _ {M : Type 1} (𝓤 : URA M) (H : Heap 𝓤) (A : Atoms 𝓤) (W : Given
   abbrev Kept : SProp 𝓤
   Kept = sep 𝓤 (emp 𝓤) Way
 
-  fields-out : (a0 a1 a2 a3 a4 a5 a6 a7 a8 a9 a10 a11 : Val) → ent 𝓤 (H .at fullShare T′.mir b o (mach a0 a1 a2 a3 a4 a5 a6 a7 a8 a9 a10 a11)) (sep 𝓤 (H .at fullShare (tyInt w32) b (o + 0) a0) (sep 𝓤 (H .at fullShare (tyInt w8) b (o + 4) a1) (sep 𝓤 (H .at fullShare (tyInt w32) b (o + 8) a2) (sep 𝓤 (H .at fullShare (tyInt w64) b (o + 16) a3) (sep 𝓤 (H .at fullShare (tyInt w8) b (o + 24) a4) (sep 𝓤 (H .at fullShare (tyArray (tyInt w32) 16) b (o + 28) a5) (sep 𝓤 (H .at fullShare (tyArray (tyInt w8) 16) b (o + 92) a6) (sep 𝓤 (H .at fullShare (tyInt w16) b (o + 108) a7) (sep 𝓤 (H .at fullShare (tyArray (tyInt w64) 256) b (o + 112) a8) (sep 𝓤 (H .at fullShare (tyArray (tyInt w64) 256) b (o + 2160) a9) (sep 𝓤 (H .at fullShare (tyArray (tyInt w8) 256) b (o + 4208) a10) (sep 𝓤 (H .at fullShare (tyArray (tyInt w16) 256) b (o + 4464) a11) Kept))))))))))))
-  fields-out a0 a1 a2 a3 a4 a5 a6 a7 a8 a9 a10 a11 = qed W (‵ (fat fullShare T′.mir b o (mach a0 a1 a2 a3 a4 a5 a6 a7 a8 a9 a10 a11)) ∷ []) ∵ use1 W ((‵ (fat fullShare (tyInt w32) b (o + 0) a0) ⊛ ‵ (fat fullShare (tyInt w8) b (o + 4) a1) ⊛ ‵ (fat fullShare (tyInt w32) b (o + 8) a2) ⊛ ‵ (fat fullShare (tyInt w64) b (o + 16) a3) ⊛ ‵ (fat fullShare (tyInt w8) b (o + 24) a4) ⊛ ‵ (fat fullShare (tyArray (tyInt w32) 16) b (o + 28) a5) ⊛ ‵ (fat fullShare (tyArray (tyInt w8) 16) b (o + 92) a6) ⊛ ‵ (fat fullShare (tyInt w16) b (o + 108) a7) ⊛ ‵ (fat fullShare (tyArray (tyInt w64) 256) b (o + 112) a8) ⊛ ‵ (fat fullShare (tyArray (tyInt w64) 256) b (o + 2160) a9) ⊛ ‵ (fat fullShare (tyArray (tyInt w8) 256) b (o + 4208) a10) ⊛ ‵ (fat fullShare (tyArray (tyInt w16) 256) b (o + 4464) a11) ⊛ raw (emp 𝓤)) ⊛ raw Way) (W .laws .at-fields fullShare (T.the-type .name) tys b o (vals a0 a1 a2 a3 a4 a5 a6 a7 a8 a9 a10 a11)) $ split ! $ split ! $ move ! (1 ∷ []) $ split ! $ move ! (1 ∷ []) $ split ! $ move ! (1 ∷ []) $ split ! $ move ! (1 ∷ []) $ split ! $ move ! (1 ∷ []) $ split ! $ move ! (1 ∷ []) $ split ! $ move ! (1 ∷ []) $ split ! $ move ! (1 ∷ []) $ split ! $ move ! (1 ∷ []) $ split ! $ move ! (1 ∷ []) $ split ! $ move ! (1 ∷ []) $ split ! $ move ! (1 ∷ []) $ move ! (12 ∷ 11 ∷ 10 ∷ 9 ∷ 8 ∷ 7 ∷ 6 ∷ 5 ∷ 4 ∷ 3 ∷ 2 ∷ 1 ∷ 0 ∷ 13 ∷ []) $ done !
+  fields-out : (a0 a1 a2 a3 a4 a5 a6 : Val) → ent 𝓤 (H .at fullShare T′.mir b o (mach a0 a1 a2 a3 a4 a5 a6)) (sep 𝓤 (H .at fullShare (tyArray (tyInt w64) 6) b (o + 0) a0) (sep 𝓤 (H .at fullShare (tyArray (tyInt w32) 16) b (o + 48) a1) (sep 𝓤 (H .at fullShare (tyArray (tyInt w8) 16) b (o + 112) a2) (sep 𝓤 (H .at fullShare (tyArray (tyInt w64) 256) b (o + 128) a3) (sep 𝓤 (H .at fullShare (tyArray (tyInt w64) 256) b (o + 2176) a4) (sep 𝓤 (H .at fullShare (tyArray (tyInt w8) 256) b (o + 4224) a5) (sep 𝓤 (H .at fullShare (tyArray (tyInt w16) 256) b (o + 4480) a6) Kept)))))))
+  fields-out a0 a1 a2 a3 a4 a5 a6 = qed W (‵ (fat fullShare T′.mir b o (mach a0 a1 a2 a3 a4 a5 a6)) ∷ []) ∵ use1 W ((‵ (fat fullShare (tyArray (tyInt w64) 6) b (o + 0) a0) ⊛ ‵ (fat fullShare (tyArray (tyInt w32) 16) b (o + 48) a1) ⊛ ‵ (fat fullShare (tyArray (tyInt w8) 16) b (o + 112) a2) ⊛ ‵ (fat fullShare (tyArray (tyInt w64) 256) b (o + 128) a3) ⊛ ‵ (fat fullShare (tyArray (tyInt w64) 256) b (o + 2176) a4) ⊛ ‵ (fat fullShare (tyArray (tyInt w8) 256) b (o + 4224) a5) ⊛ ‵ (fat fullShare (tyArray (tyInt w16) 256) b (o + 4480) a6) ⊛ raw (emp 𝓤)) ⊛ raw Way) (W .laws .at-fields fullShare (T.the-type .name) tys b o (vals a0 a1 a2 a3 a4 a5 a6)) $ split ! $ split ! $ move ! (1 ∷ []) $ split ! $ move ! (1 ∷ []) $ split ! $ move ! (1 ∷ []) $ split ! $ move ! (1 ∷ []) $ split ! $ move ! (1 ∷ []) $ split ! $ move ! (1 ∷ []) $ split ! $ move ! (1 ∷ []) $ move ! (7 ∷ 6 ∷ 5 ∷ 4 ∷ 3 ∷ 2 ∷ 1 ∷ 0 ∷ 8 ∷ []) $ done !
 
-  fields-back : (a0 a1 a2 a3 a4 a5 a6 a7 a8 a9 a10 a11 : Val) → ent 𝓤 (sep 𝓤 (H .at fullShare (tyInt w32) b (o + 0) a0) (sep 𝓤 (H .at fullShare (tyInt w8) b (o + 4) a1) (sep 𝓤 (H .at fullShare (tyInt w32) b (o + 8) a2) (sep 𝓤 (H .at fullShare (tyInt w64) b (o + 16) a3) (sep 𝓤 (H .at fullShare (tyInt w8) b (o + 24) a4) (sep 𝓤 (H .at fullShare (tyArray (tyInt w32) 16) b (o + 28) a5) (sep 𝓤 (H .at fullShare (tyArray (tyInt w8) 16) b (o + 92) a6) (sep 𝓤 (H .at fullShare (tyInt w16) b (o + 108) a7) (sep 𝓤 (H .at fullShare (tyArray (tyInt w64) 256) b (o + 112) a8) (sep 𝓤 (H .at fullShare (tyArray (tyInt w64) 256) b (o + 2160) a9) (sep 𝓤 (H .at fullShare (tyArray (tyInt w8) 256) b (o + 4208) a10) (sep 𝓤 (H .at fullShare (tyArray (tyInt w16) 256) b (o + 4464) a11) Kept)))))))))))) (H .at fullShare T′.mir b o (mach a0 a1 a2 a3 a4 a5 a6 a7 a8 a9 a10 a11))
-  fields-back a0 a1 a2 a3 a4 a5 a6 a7 a8 a9 a10 a11 = qed W (‵ (fat fullShare (tyInt w32) b (o + 0) a0) ∷ ‵ (fat fullShare (tyInt w8) b (o + 4) a1) ∷ ‵ (fat fullShare (tyInt w32) b (o + 8) a2) ∷ ‵ (fat fullShare (tyInt w64) b (o + 16) a3) ∷ ‵ (fat fullShare (tyInt w8) b (o + 24) a4) ∷ ‵ (fat fullShare (tyArray (tyInt w32) 16) b (o + 28) a5) ∷ ‵ (fat fullShare (tyArray (tyInt w8) 16) b (o + 92) a6) ∷ ‵ (fat fullShare (tyInt w16) b (o + 108) a7) ∷ ‵ (fat fullShare (tyArray (tyInt w64) 256) b (o + 112) a8) ∷ ‵ (fat fullShare (tyArray (tyInt w64) 256) b (o + 2160) a9) ∷ ‵ (fat fullShare (tyArray (tyInt w8) 256) b (o + 4208) a10) ∷ ‵ (fat fullShare (tyArray (tyInt w16) 256) b (o + 4464) a11) ∷ raw (emp 𝓤) ∷ raw Way ∷ []) ∵ move ! (0 ∷ 1 ∷ 2 ∷ 3 ∷ 4 ∷ 5 ∷ 6 ∷ 7 ∷ 8 ∷ 9 ∷ 10 ∷ 11 ∷ 12 ∷ 13 ∷ []) $ group ! 13 $ move ! (1 ∷ []) $ use1 W (raw (Back (vals a0 a1 a2 a3 a4 a5 a6 a7 a8 a9 a10 a11))) (allE 𝓤 Back (vals a0 a1 a2 a3 a4 a5 a6 a7 a8 a9 a10 a11)) $ move ! (1 ∷ 0 ∷ []) $ use2 W (‵ (fat fullShare T′.mir b o (mach a0 a1 a2 a3 a4 a5 a6 a7 a8 a9 a10 a11))) (apply∗ 𝓤 (Fs (vals a0 a1 a2 a3 a4 a5 a6 a7 a8 a9 a10 a11)) (H .at fullShare T′.mir b o (mach a0 a1 a2 a3 a4 a5 a6 a7 a8 a9 a10 a11))) $ done !
+  fields-back : (a0 a1 a2 a3 a4 a5 a6 : Val) → ent 𝓤 (sep 𝓤 (H .at fullShare (tyArray (tyInt w64) 6) b (o + 0) a0) (sep 𝓤 (H .at fullShare (tyArray (tyInt w32) 16) b (o + 48) a1) (sep 𝓤 (H .at fullShare (tyArray (tyInt w8) 16) b (o + 112) a2) (sep 𝓤 (H .at fullShare (tyArray (tyInt w64) 256) b (o + 128) a3) (sep 𝓤 (H .at fullShare (tyArray (tyInt w64) 256) b (o + 2176) a4) (sep 𝓤 (H .at fullShare (tyArray (tyInt w8) 256) b (o + 4224) a5) (sep 𝓤 (H .at fullShare (tyArray (tyInt w16) 256) b (o + 4480) a6) Kept))))))) (H .at fullShare T′.mir b o (mach a0 a1 a2 a3 a4 a5 a6))
+  fields-back a0 a1 a2 a3 a4 a5 a6 = qed W (‵ (fat fullShare (tyArray (tyInt w64) 6) b (o + 0) a0) ∷ ‵ (fat fullShare (tyArray (tyInt w32) 16) b (o + 48) a1) ∷ ‵ (fat fullShare (tyArray (tyInt w8) 16) b (o + 112) a2) ∷ ‵ (fat fullShare (tyArray (tyInt w64) 256) b (o + 128) a3) ∷ ‵ (fat fullShare (tyArray (tyInt w64) 256) b (o + 2176) a4) ∷ ‵ (fat fullShare (tyArray (tyInt w8) 256) b (o + 4224) a5) ∷ ‵ (fat fullShare (tyArray (tyInt w16) 256) b (o + 4480) a6) ∷ raw (emp 𝓤) ∷ raw Way ∷ []) ∵ move ! (0 ∷ 1 ∷ 2 ∷ 3 ∷ 4 ∷ 5 ∷ 6 ∷ 7 ∷ 8 ∷ []) $ group ! 8 $ move ! (1 ∷ []) $ use1 W (raw (Back (vals a0 a1 a2 a3 a4 a5 a6))) (allE 𝓤 Back (vals a0 a1 a2 a3 a4 a5 a6)) $ move ! (1 ∷ 0 ∷ []) $ use2 W (‵ (fat fullShare T′.mir b o (mach a0 a1 a2 a3 a4 a5 a6))) (apply∗ 𝓤 (Fs (vals a0 a1 a2 a3 a4 a5 a6)) (H .at fullShare T′.mir b o (mach a0 a1 a2 a3 a4 a5 a6))) $ done !
 
-  exits : (r : Answer) (z0 : ℕ) (z1 : ℕ) (z2 : ℕ) (z3 : ℕ) (z4 : ℕ) (z5 : List ℕ) (z6 : List ℕ) (z7 : ℕ) (z8 : List ℕ) (z9 : List ℕ) (z10 : List ℕ) (z11 : List ℕ) → stepped (made z0 z1 z2 z3 z4 z5 z6 z7 z8 z9 z10 z11) r ≡ stepOf h (bytes .now) tag → Is R.the-row r ((EL.val R.the-type R′.the-laws r) ∷ []) → ent 𝓤 (⋆ 𝓤 H A (‵ (fobs γ (T.the-row .coded .code (with h z0 z1 z2 z3 z4 z5 z6 z7 z8 z9 z10 z11))) ∷ ‵ (fbor κ (Body (mem T.the-row) b o γ)) ∷ ‵ (flft κ q) ∷ (‵ (flft κ′ q′) ⊛ ‵ ftrue) ∷ ‵ (ShrSlice (named 1) κ′ u8 .own bytes (sliceVal (bytes .ptr) (length (bytes .now)) ∷ [])) ∷ [])) (Post (EL.val R.the-type R′.the-laws r))
-  exits r z0 z1 z2 z3 z4 z5 z6 z7 z8 z9 z10 z11 e is =
-      qed W (‵ (fobs γ (T.the-row .coded .code (with h z0 z1 z2 z3 z4 z5 z6 z7 z8 z9 z10 z11))) ∷ ‵ (fbor κ (Body (mem T.the-row) b o γ)) ∷ ‵ (flft κ q) ∷ (‵ (flft κ′ q′) ⊛ ‵ ftrue) ∷ ‵ (ShrSlice (named 1) κ′ u8 .own bytes (sliceVal (bytes .ptr) (length (bytes .now)) ∷ [])) ∷ []) ∵
-      suffices ! _ (ends-at 𝓤 H A f.ended stayed (f.clauses 𝓤 H A at-mem run) W (((κ, (κ′, tt)), (q, (q′, tt)), bounds, x, at-args), tt) (EL.val R.the-type R′.the-laws r) r (with h z0 z1 z2 z3 z4 z5 z6 z7 z8 z9 z10 z11, (tt, (tt, tt))) (tt, (tt, (tt, tt)))) $ says ! (e) $ move ! (2 ∷ 3 ∷ []) $ join ! $
+  exits : (r : Answer) (z0 : List ℕ) (z1 : List ℕ) (z2 : List ℕ) (z3 : List ℕ) (z4 : List ℕ) (z5 : List ℕ) (z6 : List ℕ) → stepped (sessionOf z0 z1 z2 z3 z4 z5 z6) r ≡ stepOf h (bytes .now) tag → Is R.the-row r ((EL.val R.the-type R′.the-laws r) ∷ []) → ent 𝓤 (⋆ 𝓤 H A (‵ (fobs γ (T.the-row .coded .code (with h z0 z1 z2 z3 z4 z5 z6))) ∷ ‵ (fbor κ (Body (mem T.the-row) b o γ)) ∷ ‵ (flft κ q) ∷ (‵ (flft κ′ q′) ⊛ ‵ ftrue) ∷ ‵ (ShrSlice (named 1) κ′ u8 .own bytes (sliceVal (bytes .ptr) (length (bytes .now)) ∷ [])) ∷ [])) (Post (EL.val R.the-type R′.the-laws r))
+  exits r z0 z1 z2 z3 z4 z5 z6 e is =
+      qed W (‵ (fobs γ (T.the-row .coded .code (with h z0 z1 z2 z3 z4 z5 z6))) ∷ ‵ (fbor κ (Body (mem T.the-row) b o γ)) ∷ ‵ (flft κ q) ∷ (‵ (flft κ′ q′) ⊛ ‵ ftrue) ∷ ‵ (ShrSlice (named 1) κ′ u8 .own bytes (sliceVal (bytes .ptr) (length (bytes .now)) ∷ [])) ∷ []) ∵
+      suffices ! _ (ends-at 𝓤 H A f.ended stayed (f.clauses 𝓤 H A at-mem run) W (((κ, (κ′, tt)), (q, (q′, tt)), bounds, x, at-args), tt) (EL.val R.the-type R′.the-laws r) r (with h z0 z1 z2 z3 z4 z5 z6, (tt, (tt, tt))) (tt, (tt, (tt, tt)))) $ says ! (e) $ move ! (2 ∷ 3 ∷ []) $ join ! $
       frame ! $ feqI ! (List Val) (vptr b o ∷ []) (vptr b o ∷ []) refl $ fjoin3 ! $
       nothing ! $ owned ! u64 (Is u64) (uint-makes 𝓤 H A W w64) tag _ (refl, tag-fits) $ fjoin ! $ move ! (2 ∷ 0 ∷ []) $ fjoin ! $ move ! (1 ∷ 0 ∷ []) $ fjoin ! $
       owned ! R.the-row (Is R.the-row) (EL.makes R.the-type R′.the-plain 𝓤 H A) r _ is $ move ! (1 ∷ 0 ∷ []) $ done !
 
-  abbrev lent0 : GName → RefT (ℕ)
-  lent0 δ = record { ptr = (b, o + 0); name = δ; now = h .version }
+  abbrev lent0 : GName → RefT (List ℕ)
+  lent0 δ = record { ptr = (b, o + 0); name = δ; now = h .head }
 
-  abbrev lent1 : GName → RefT (ℕ)
-  lent1 δ = record { ptr = (b, o + 4); name = δ; now = h .phase }
+  abbrev lent1 : GName → RefT (List ℕ)
+  lent1 δ = record { ptr = (b, o + 48); name = δ; now = h .«stream_xids» }
 
-  abbrev lent2 : GName → RefT (ℕ)
-  lent2 δ = record { ptr = (b, o + 8); name = δ; now = h .«current_xid» }
+  abbrev lent2 : GName → RefT (List ℕ)
+  lent2 δ = record { ptr = (b, o + 112); name = δ; now = h .«stream_changed» }
 
-  abbrev lent3 : GName → RefT (ℕ)
-  lent3 δ = record { ptr = (b, o + 16); name = δ; now = h .«final_lsn» }
+  abbrev lent3 : GName → RefT (List ℕ)
+  lent3 δ = record { ptr = (b, o + 128); name = δ; now = h .keys }
 
-  abbrev lent4 : GName → RefT (ℕ)
-  lent4 δ = record { ptr = (b, o + 24); name = δ; now = h .changed }
+  abbrev lent4 : GName → RefT (List ℕ)
+  lent4 δ = record { ptr = (b, o + 2176); name = δ; now = h .tags }
 
   abbrev lent5 : GName → RefT (List ℕ)
-  lent5 δ = record { ptr = (b, o + 28); name = δ; now = h .«stream_xids» }
+  lent5 δ = record { ptr = (b, o + 4224); name = δ; now = h .identities }
 
   abbrev lent6 : GName → RefT (List ℕ)
-  lent6 δ = record { ptr = (b, o + 92); name = δ; now = h .«stream_changed» }
-
-  abbrev lent7 : GName → RefT (ℕ)
-  lent7 δ = record { ptr = (b, o + 108); name = δ; now = h .rows }
-
-  abbrev lent8 : GName → RefT (List ℕ)
-  lent8 δ = record { ptr = (b, o + 112); name = δ; now = h .keys }
-
-  abbrev lent9 : GName → RefT (List ℕ)
-  lent9 δ = record { ptr = (b, o + 2160); name = δ; now = h .tags }
-
-  abbrev lent10 : GName → RefT (List ℕ)
-  lent10 δ = record { ptr = (b, o + 4208); name = δ; now = h .identities }
-
-  abbrev lent11 : GName → RefT (List ℕ)
-  lent11 δ = record { ptr = (b, o + 4464); name = δ; now = h .columns }
+  lent6 δ = record { ptr = (b, o + 4480); name = δ; now = h .columns }
 
   -- what the callee's triple binds outside
-  abbrev to : ℕ → GName → GName → GName → GName → GName → GName → GName → GName → GName → GName → GName → GName → GC 𝓤 H A at-mem run .Ghost
-  to ν δ0 δ1 δ2 δ3 δ4 δ5 δ6 δ7 δ8 δ9 δ10 δ11 = (((ν ∷ [], (κ′, tt)), (fullShare, (q′, tt)), tt, (lent0 δ0, (lent1 δ1, (lent2 δ2, (lent3 δ3, (lent4 δ4, (lent5 δ5, (lent6 δ6, (lent7 δ7, (lent8 δ8, (lent9 δ9, (lent10 δ10, (lent11 δ11, (bytes, (tag, tt)))))))))))))), (vptr b (o + 0) ∷ [], (vptr b (o + 4) ∷ [], (vptr b (o + 8) ∷ [], (vptr b (o + 16) ∷ [], (vptr b (o + 24) ∷ [], (vptr b (o + 28) ∷ [], (vptr b (o + 92) ∷ [], (vptr b (o + 108) ∷ [], (vptr b (o + 112) ∷ [], (vptr b (o + 2160) ∷ [], (vptr b (o + 4208) ∷ [], (vptr b (o + 4464) ∷ [], (sliceVal (bytes .ptr) (length (bytes .now)) ∷ [], (vint w64 tag ∷ [], tt))))))))))))))), tt)
+  abbrev to : ℕ → GName → GName → GName → GName → GName → GName → GName → GC 𝓤 H A at-mem run .Ghost
+  to ν δ0 δ1 δ2 δ3 δ4 δ5 δ6 = (((ν ∷ [], (κ′, tt)), (fullShare, (q′, tt)), tt, (lent0 δ0, (lent1 δ1, (lent2 δ2, (lent3 δ3, (lent4 δ4, (lent5 δ5, (lent6 δ6, (bytes, (tag, tt))))))))), (vptr b (o + 0) ∷ [], (vptr b (o + 48) ∷ [], (vptr b (o + 112) ∷ [], (vptr b (o + 128) ∷ [], (vptr b (o + 2176) ∷ [], (vptr b (o + 4224) ∷ [], (vptr b (o + 4480) ∷ [], (sliceVal (bytes .ptr) (length (bytes .now)) ∷ [], (vint w64 tag ∷ [], tt)))))))))), tt)
 
-  goes : (ν : ℕ) (δ0 δ1 δ2 δ3 δ4 δ5 δ6 δ7 δ8 δ9 δ10 δ11 : GName) → ent 𝓤 (sep 𝓤 (A .lft (ν ∷ []) fullShare) (sep 𝓤 (sem 𝓤 H A (MutRef (named 0) (ν ∷ []) u32 .own (lent0 δ0) (vptr b (o + 0) ∷ []))) (sep 𝓤 (sem 𝓤 H A (MutRef (named 0) (ν ∷ []) u8 .own (lent1 δ1) (vptr b (o + 4) ∷ []))) (sep 𝓤 (sem 𝓤 H A (MutRef (named 0) (ν ∷ []) u32 .own (lent2 δ2) (vptr b (o + 8) ∷ []))) (sep 𝓤 (sem 𝓤 H A (MutRef (named 0) (ν ∷ []) u64 .own (lent3 δ3) (vptr b (o + 16) ∷ []))) (sep 𝓤 (sem 𝓤 H A (MutRef (named 0) (ν ∷ []) u8 .own (lent4 δ4) (vptr b (o + 24) ∷ []))) (sep 𝓤 (sem 𝓤 H A (MutRef (named 0) (ν ∷ []) (Array u32 16) .own (lent5 δ5) (vptr b (o + 28) ∷ []))) (sep 𝓤 (sem 𝓤 H A (MutRef (named 0) (ν ∷ []) (Array u8 16) .own (lent6 δ6) (vptr b (o + 92) ∷ []))) (sep 𝓤 (sem 𝓤 H A (MutRef (named 0) (ν ∷ []) u16 .own (lent7 δ7) (vptr b (o + 108) ∷ []))) (sep 𝓤 (sem 𝓤 H A (MutRef (named 0) (ν ∷ []) (Array u64 256) .own (lent8 δ8) (vptr b (o + 112) ∷ []))) (sep 𝓤 (sem 𝓤 H A (MutRef (named 0) (ν ∷ []) (Array u64 256) .own (lent9 δ9) (vptr b (o + 2160) ∷ []))) (sep 𝓤 (sem 𝓤 H A (MutRef (named 0) (ν ∷ []) (Array u8 256) .own (lent10 δ10) (vptr b (o + 4208) ∷ []))) (sep 𝓤 (sem 𝓤 H A (MutRef (named 0) (ν ∷ []) (Array u16 256) .own (lent11 δ11) (vptr b (o + 4464) ∷ []))) (sep 𝓤 (sep 𝓤 (A .lft κ′ q′) (sem 𝓤 H A ftrue)) (sem 𝓤 H A (ShrSlice (named 1) κ′ u8 .own bytes (sliceVal (bytes .ptr) (length (bytes .now)) ∷ []))))))))))))))))) (GC 𝓤 H A at-mem run .pre (to ν δ0 δ1 δ2 δ3 δ4 δ5 δ6 δ7 δ8 δ9 δ10 δ11))
-  goes ν δ0 δ1 δ2 δ3 δ4 δ5 δ6 δ7 δ8 δ9 δ10 δ11 = qed W (‵ (flft (ν ∷ []) fullShare) ∷ ‵ (MutRef (named 0) (ν ∷ []) u32 .own (lent0 δ0) (vptr b (o + 0) ∷ [])) ∷ ‵ (MutRef (named 0) (ν ∷ []) u8 .own (lent1 δ1) (vptr b (o + 4) ∷ [])) ∷ ‵ (MutRef (named 0) (ν ∷ []) u32 .own (lent2 δ2) (vptr b (o + 8) ∷ [])) ∷ ‵ (MutRef (named 0) (ν ∷ []) u64 .own (lent3 δ3) (vptr b (o + 16) ∷ [])) ∷ ‵ (MutRef (named 0) (ν ∷ []) u8 .own (lent4 δ4) (vptr b (o + 24) ∷ [])) ∷ ‵ (MutRef (named 0) (ν ∷ []) (Array u32 16) .own (lent5 δ5) (vptr b (o + 28) ∷ [])) ∷ ‵ (MutRef (named 0) (ν ∷ []) (Array u8 16) .own (lent6 δ6) (vptr b (o + 92) ∷ [])) ∷ ‵ (MutRef (named 0) (ν ∷ []) u16 .own (lent7 δ7) (vptr b (o + 108) ∷ [])) ∷ ‵ (MutRef (named 0) (ν ∷ []) (Array u64 256) .own (lent8 δ8) (vptr b (o + 112) ∷ [])) ∷ ‵ (MutRef (named 0) (ν ∷ []) (Array u64 256) .own (lent9 δ9) (vptr b (o + 2160) ∷ [])) ∷ ‵ (MutRef (named 0) (ν ∷ []) (Array u8 256) .own (lent10 δ10) (vptr b (o + 4208) ∷ [])) ∷ ‵ (MutRef (named 0) (ν ∷ []) (Array u16 256) .own (lent11 δ11) (vptr b (o + 4464) ∷ [])) ∷ (‵ (flft κ′ q′) ⊛ ‵ ftrue) ∷ ‵ (ShrSlice (named 1) κ′ u8 .own bytes (sliceVal (bytes .ptr) (length (bytes .now)) ∷ [])) ∷ []) ∵ nothing ! $ owned ! u64 (Is u64) (uint-makes 𝓤 H A W w64) tag _ (refl, tag-fits) $ fjoin ! $ move ! (15 ∷ 0 ∷ []) $ fjoin ! $ move ! (13 ∷ 0 ∷ []) $ fjoin ! $ move ! (12 ∷ 0 ∷ []) $ fjoin ! $ move ! (11 ∷ 0 ∷ []) $ fjoin ! $ move ! (10 ∷ 0 ∷ []) $ fjoin ! $ move ! (9 ∷ 0 ∷ []) $ fjoin ! $ move ! (8 ∷ 0 ∷ []) $ fjoin ! $ move ! (7 ∷ 0 ∷ []) $ fjoin ! $ move ! (6 ∷ 0 ∷ []) $ fjoin ! $ move ! (5 ∷ 0 ∷ []) $ fjoin ! $ move ! (4 ∷ 0 ∷ []) $ fjoin ! $ move ! (3 ∷ 0 ∷ []) $ fjoin ! $ move ! (2 ∷ 0 ∷ []) $ fjoin ! $ move ! (1 ∷ 2 ∷ 0 ∷ []) $ join ! $ join ! $ frame ! $ done !
+  goes : (ν : ℕ) (δ0 δ1 δ2 δ3 δ4 δ5 δ6 : GName) → ent 𝓤 (sep 𝓤 (A .lft (ν ∷ []) fullShare) (sep 𝓤 (sem 𝓤 H A (MutRef (named 0) (ν ∷ []) (Array u64 6) .own (lent0 δ0) (vptr b (o + 0) ∷ []))) (sep 𝓤 (sem 𝓤 H A (MutRef (named 0) (ν ∷ []) (Array u32 16) .own (lent1 δ1) (vptr b (o + 48) ∷ []))) (sep 𝓤 (sem 𝓤 H A (MutRef (named 0) (ν ∷ []) (Array u8 16) .own (lent2 δ2) (vptr b (o + 112) ∷ []))) (sep 𝓤 (sem 𝓤 H A (MutRef (named 0) (ν ∷ []) (Array u64 256) .own (lent3 δ3) (vptr b (o + 128) ∷ []))) (sep 𝓤 (sem 𝓤 H A (MutRef (named 0) (ν ∷ []) (Array u64 256) .own (lent4 δ4) (vptr b (o + 2176) ∷ []))) (sep 𝓤 (sem 𝓤 H A (MutRef (named 0) (ν ∷ []) (Array u8 256) .own (lent5 δ5) (vptr b (o + 4224) ∷ []))) (sep 𝓤 (sem 𝓤 H A (MutRef (named 0) (ν ∷ []) (Array u16 256) .own (lent6 δ6) (vptr b (o + 4480) ∷ []))) (sep 𝓤 (sep 𝓤 (A .lft κ′ q′) (sem 𝓤 H A ftrue)) (sem 𝓤 H A (ShrSlice (named 1) κ′ u8 .own bytes (sliceVal (bytes .ptr) (length (bytes .now)) ∷ [])))))))))))) (GC 𝓤 H A at-mem run .pre (to ν δ0 δ1 δ2 δ3 δ4 δ5 δ6))
+  goes ν δ0 δ1 δ2 δ3 δ4 δ5 δ6 = qed W (‵ (flft (ν ∷ []) fullShare) ∷ ‵ (MutRef (named 0) (ν ∷ []) (Array u64 6) .own (lent0 δ0) (vptr b (o + 0) ∷ [])) ∷ ‵ (MutRef (named 0) (ν ∷ []) (Array u32 16) .own (lent1 δ1) (vptr b (o + 48) ∷ [])) ∷ ‵ (MutRef (named 0) (ν ∷ []) (Array u8 16) .own (lent2 δ2) (vptr b (o + 112) ∷ [])) ∷ ‵ (MutRef (named 0) (ν ∷ []) (Array u64 256) .own (lent3 δ3) (vptr b (o + 128) ∷ [])) ∷ ‵ (MutRef (named 0) (ν ∷ []) (Array u64 256) .own (lent4 δ4) (vptr b (o + 2176) ∷ [])) ∷ ‵ (MutRef (named 0) (ν ∷ []) (Array u8 256) .own (lent5 δ5) (vptr b (o + 4224) ∷ [])) ∷ ‵ (MutRef (named 0) (ν ∷ []) (Array u16 256) .own (lent6 δ6) (vptr b (o + 4480) ∷ [])) ∷ (‵ (flft κ′ q′) ⊛ ‵ ftrue) ∷ ‵ (ShrSlice (named 1) κ′ u8 .own bytes (sliceVal (bytes .ptr) (length (bytes .now)) ∷ [])) ∷ []) ∵ nothing ! $ owned ! u64 (Is u64) (uint-makes 𝓤 H A W w64) tag _ (refl, tag-fits) $ fjoin ! $ move ! (10 ∷ 0 ∷ []) $ fjoin ! $ move ! (8 ∷ 0 ∷ []) $ fjoin ! $ move ! (7 ∷ 0 ∷ []) $ fjoin ! $ move ! (6 ∷ 0 ∷ []) $ fjoin ! $ move ! (5 ∷ 0 ∷ []) $ fjoin ! $ move ! (4 ∷ 0 ∷ []) $ fjoin ! $ move ! (3 ∷ 0 ∷ []) $ fjoin ! $ move ! (2 ∷ 0 ∷ []) $ fjoin ! $ move ! (1 ∷ 2 ∷ 0 ∷ []) $ join ! $ join ! $ frame ! $ done !
 
   abbrev Names : Type 0
-  Names = GName × (GName × (GName × (GName × (GName × (GName × (GName × (GName × (GName × (GName × (GName × (GName × (Unit {0}))))))))))))
+  Names = GName × (GName × (GName × (GName × (GName × (GName × (GName × (Unit {0})))))))
 
   -- the lender's parts, and what is kept
   abbrev Lents : ℕ → Names → SProp 𝓤
-  Lents ν δ = (sep 𝓤 (sem 𝓤 H A (flent (ν ∷ []) (Body (mem u32) b (o + 0) (δ .0)))) (sep 𝓤 (sem 𝓤 H A (flent (ν ∷ []) (Body (mem u8) b (o + 4) (δ .1 .0)))) (sep 𝓤 (sem 𝓤 H A (flent (ν ∷ []) (Body (mem u32) b (o + 8) (δ .1 .1 .0)))) (sep 𝓤 (sem 𝓤 H A (flent (ν ∷ []) (Body (mem u64) b (o + 16) (δ .1 .1 .1 .0)))) (sep 𝓤 (sem 𝓤 H A (flent (ν ∷ []) (Body (mem u8) b (o + 24) (δ .1 .1 .1 .1 .0)))) (sep 𝓤 (sem 𝓤 H A (flent (ν ∷ []) (Body (mem (Array u32 16)) b (o + 28) (δ .1 .1 .1 .1 .1 .0)))) (sep 𝓤 (sem 𝓤 H A (flent (ν ∷ []) (Body (mem (Array u8 16)) b (o + 92) (δ .1 .1 .1 .1 .1 .1 .0)))) (sep 𝓤 (sem 𝓤 H A (flent (ν ∷ []) (Body (mem u16) b (o + 108) (δ .1 .1 .1 .1 .1 .1 .1 .0)))) (sep 𝓤 (sem 𝓤 H A (flent (ν ∷ []) (Body (mem (Array u64 256)) b (o + 112) (δ .1 .1 .1 .1 .1 .1 .1 .1 .0)))) (sep 𝓤 (sem 𝓤 H A (flent (ν ∷ []) (Body (mem (Array u64 256)) b (o + 2160) (δ .1 .1 .1 .1 .1 .1 .1 .1 .1 .0)))) (sep 𝓤 (sem 𝓤 H A (flent (ν ∷ []) (Body (mem (Array u8 256)) b (o + 4208) (δ .1 .1 .1 .1 .1 .1 .1 .1 .1 .1 .0)))) (sep 𝓤 (sem 𝓤 H A (flent (ν ∷ []) (Body (mem (Array u16 256)) b (o + 4464) (δ .1 .1 .1 .1 .1 .1 .1 .1 .1 .1 .1 .0)))) Kept))))))))))))
+  Lents ν δ = (sep 𝓤 (sem 𝓤 H A (flent (ν ∷ []) (Body (mem (Array u64 6)) b (o + 0) (δ .0)))) (sep 𝓤 (sem 𝓤 H A (flent (ν ∷ []) (Body (mem (Array u32 16)) b (o + 48) (δ .1 .0)))) (sep 𝓤 (sem 𝓤 H A (flent (ν ∷ []) (Body (mem (Array u8 16)) b (o + 112) (δ .1 .1 .0)))) (sep 𝓤 (sem 𝓤 H A (flent (ν ∷ []) (Body (mem (Array u64 256)) b (o + 128) (δ .1 .1 .1 .0)))) (sep 𝓤 (sem 𝓤 H A (flent (ν ∷ []) (Body (mem (Array u64 256)) b (o + 2176) (δ .1 .1 .1 .1 .0)))) (sep 𝓤 (sem 𝓤 H A (flent (ν ∷ []) (Body (mem (Array u8 256)) b (o + 4224) (δ .1 .1 .1 .1 .1 .0)))) (sep 𝓤 (sem 𝓤 H A (flent (ν ∷ []) (Body (mem (Array u16 256)) b (o + 4480) (δ .1 .1 .1 .1 .1 .1 .0)))) Kept)))))))
 
   abbrev Lent : ℕ × Names → SProp 𝓤
-  Lent y = sep 𝓤 (GC 𝓤 H A at-mem run .pre (to (y .0) (y .1 .0) (y .1 .1 .0) (y .1 .1 .1 .0) (y .1 .1 .1 .1 .0) (y .1 .1 .1 .1 .1 .0) (y .1 .1 .1 .1 .1 .1 .0) (y .1 .1 .1 .1 .1 .1 .1 .0) (y .1 .1 .1 .1 .1 .1 .1 .1 .0) (y .1 .1 .1 .1 .1 .1 .1 .1 .1 .0) (y .1 .1 .1 .1 .1 .1 .1 .1 .1 .1 .0) (y .1 .1 .1 .1 .1 .1 .1 .1 .1 .1 .1 .0) (y .1 .1 .1 .1 .1 .1 .1 .1 .1 .1 .1 .1 .0))) (Lents (y .0) (y .1))
+  Lent y = sep 𝓤 (GC 𝓤 H A at-mem run .pre (to (y .0) (y .1 .0) (y .1 .1 .0) (y .1 .1 .1 .0) (y .1 .1 .1 .1 .0) (y .1 .1 .1 .1 .1 .0) (y .1 .1 .1 .1 .1 .1 .0) (y .1 .1 .1 .1 .1 .1 .1 .0))) (Lents (y .0) (y .1))
 
   -- the fields are taken out of the struct's cell, and lent for a lifetime of the call: what the callee asks, and what is kept
-  lend-all : (vs : List Val) → Is T.the-row h vs → ent 𝓤 (sep 𝓤 (H .at fullShare T′.mir b o (mach (vint w32 (h .version)) (vint w8 (h .phase)) (vint w32 (h .«current_xid»)) (vint w64 (h .«final_lsn»)) (vint w8 (h .changed)) (arr-u32x16 (h .«stream_xids»)) (arr-u8x16 (h .«stream_changed»)) (vint w16 (h .rows)) (arr-u64x256 (h .keys)) (arr-u64x256 (h .tags)) (arr-u8x256 (h .identities)) (arr-u16x256 (h .columns)))) (sep 𝓤 (sep 𝓤 (A .lft κ′ q′) (sem 𝓤 H A ftrue)) (sem 𝓤 H A (ShrSlice (named 1) κ′ u8 .own bytes (sliceVal (bytes .ptr) (length (bytes .now)) ∷ []))))) (H .⇛ (ex 𝓤 Lent))
+  lend-all : (vs : List Val) → Is T.the-row h vs → ent 𝓤 (sep 𝓤 (H .at fullShare T′.mir b o (mach (arr-u64x6 (h .head)) (arr-u32x16 (h .«stream_xids»)) (arr-u8x16 (h .«stream_changed»)) (arr-u64x256 (h .keys)) (arr-u64x256 (h .tags)) (arr-u8x256 (h .identities)) (arr-u16x256 (h .columns)))) (sep 𝓤 (sep 𝓤 (A .lft κ′ q′) (sem 𝓤 H A ftrue)) (sem 𝓤 H A (ShrSlice (named 1) κ′ u8 .own bytes (sliceVal (bytes .ptr) (length (bytes .now)) ∷ []))))) (H .⇛ (ex 𝓤 Lent))
   lend-all vs was =
-      qed W (‵ (fat fullShare T′.mir b o (mach (vint w32 (h .version)) (vint w8 (h .phase)) (vint w32 (h .«current_xid»)) (vint w64 (h .«final_lsn»)) (vint w8 (h .changed)) (arr-u32x16 (h .«stream_xids»)) (arr-u8x16 (h .«stream_changed»)) (vint w16 (h .rows)) (arr-u64x256 (h .keys)) (arr-u64x256 (h .tags)) (arr-u8x256 (h .identities)) (arr-u16x256 (h .columns)))) ∷ (‵ (flft κ′ q′) ⊛ ‵ ftrue) ∷ ‵ (ShrSlice (named 1) κ′ u8 .own bytes (sliceVal (bytes .ptr) (length (bytes .now)) ∷ [])) ∷ []) ∵ updating ! $ use1 W (‵ (fat fullShare (tyInt w32) b (o + 0) (vint w32 (h .version))) ⊛ ‵ (fat fullShare (tyInt w8) b (o + 4) (vint w8 (h .phase))) ⊛ ‵ (fat fullShare (tyInt w32) b (o + 8) (vint w32 (h .«current_xid»))) ⊛ ‵ (fat fullShare (tyInt w64) b (o + 16) (vint w64 (h .«final_lsn»))) ⊛ ‵ (fat fullShare (tyInt w8) b (o + 24) (vint w8 (h .changed))) ⊛ ‵ (fat fullShare (tyArray (tyInt w32) 16) b (o + 28) (arr-u32x16 (h .«stream_xids»))) ⊛ ‵ (fat fullShare (tyArray (tyInt w8) 16) b (o + 92) (arr-u8x16 (h .«stream_changed»))) ⊛ ‵ (fat fullShare (tyInt w16) b (o + 108) (vint w16 (h .rows))) ⊛ ‵ (fat fullShare (tyArray (tyInt w64) 256) b (o + 112) (arr-u64x256 (h .keys))) ⊛ ‵ (fat fullShare (tyArray (tyInt w64) 256) b (o + 2160) (arr-u64x256 (h .tags))) ⊛ ‵ (fat fullShare (tyArray (tyInt w8) 256) b (o + 4208) (arr-u8x256 (h .identities))) ⊛ ‵ (fat fullShare (tyArray (tyInt w16) 256) b (o + 4464) (arr-u16x256 (h .columns))) ⊛ raw Kept) (fields-out (vint w32 (h .version)) (vint w8 (h .phase)) (vint w32 (h .«current_xid»)) (vint w64 (h .«final_lsn»)) (vint w8 (h .changed)) (arr-u32x16 (h .«stream_xids»)) (arr-u8x16 (h .«stream_changed»)) (vint w16 (h .rows)) (arr-u64x256 (h .keys)) (arr-u64x256 (h .tags)) (arr-u8x256 (h .identities)) (arr-u16x256 (h .columns))) $
-      split ! $ owned ! u32 (Is u32) (uint-makes 𝓤 H A W w32) (h .version) _ (is-version h _ was) $ move ! (1 ∷ 0 ∷ []) $ use2 W (‵ (mem u32 .lies (h .version) b (o + 0))) (in-u32 𝓤 H A W b (o + 0) (h .version)) $
-      move ! (1 ∷ []) $ split ! $ owned ! u8 (Is u8) (uint-makes 𝓤 H A W w8) (h .phase) _ (is-phase h _ was) $ move ! (1 ∷ 0 ∷ []) $ use2 W (‵ (mem u8 .lies (h .phase) b (o + 4))) (in-u8 𝓤 H A W b (o + 4) (h .phase)) $
-      move ! (1 ∷ []) $ split ! $ owned ! u32 (Is u32) (uint-makes 𝓤 H A W w32) (h .«current_xid») _ (is-current-xid h _ was) $ move ! (1 ∷ 0 ∷ []) $ use2 W (‵ (mem u32 .lies (h .«current_xid») b (o + 8))) (in-u32 𝓤 H A W b (o + 8) (h .«current_xid»)) $
-      move ! (1 ∷ []) $ split ! $ owned ! u64 (Is u64) (uint-makes 𝓤 H A W w64) (h .«final_lsn») _ (is-final-lsn h _ was) $ move ! (1 ∷ 0 ∷ []) $ use2 W (‵ (mem u64 .lies (h .«final_lsn») b (o + 16))) (in-u64 𝓤 H A W b (o + 16) (h .«final_lsn»)) $
-      move ! (1 ∷ []) $ split ! $ owned ! u8 (Is u8) (uint-makes 𝓤 H A W w8) (h .changed) _ (is-changed h _ was) $ move ! (1 ∷ 0 ∷ []) $ use2 W (‵ (mem u8 .lies (h .changed) b (o + 24))) (in-u8 𝓤 H A W b (o + 24) (h .changed)) $
-      move ! (1 ∷ []) $ split ! $ owned ! (Array u32 16) (Is (Array u32 16)) (array-makes 𝓤 H A W u32 (uint-makes 𝓤 H A W w32) 16) (h .«stream_xids») _ (is-stream-xids h _ was) $ move ! (1 ∷ 0 ∷ []) $ use2 W (‵ (mem (Array u32 16) .lies (h .«stream_xids») b (o + 28))) (in-u32x16 𝓤 H A W b (o + 28) (h .«stream_xids»)) $
-      move ! (1 ∷ []) $ split ! $ owned ! (Array u8 16) (Is (Array u8 16)) (array-makes 𝓤 H A W u8 (uint-makes 𝓤 H A W w8) 16) (h .«stream_changed») _ (is-stream-changed h _ was) $ move ! (1 ∷ 0 ∷ []) $ use2 W (‵ (mem (Array u8 16) .lies (h .«stream_changed») b (o + 92))) (in-u8x16 𝓤 H A W b (o + 92) (h .«stream_changed»)) $
-      move ! (1 ∷ []) $ split ! $ owned ! u16 (Is u16) (uint-makes 𝓤 H A W w16) (h .rows) _ (is-rows h _ was) $ move ! (1 ∷ 0 ∷ []) $ use2 W (‵ (mem u16 .lies (h .rows) b (o + 108))) (in-u16 𝓤 H A W b (o + 108) (h .rows)) $
-      move ! (1 ∷ []) $ split ! $ owned ! (Array u64 256) (Is (Array u64 256)) (array-makes 𝓤 H A W u64 (uint-makes 𝓤 H A W w64) 256) (h .keys) _ (is-keys h _ was) $ move ! (1 ∷ 0 ∷ []) $ use2 W (‵ (mem (Array u64 256) .lies (h .keys) b (o + 112))) (in-u64x256 𝓤 H A W b (o + 112) (h .keys)) $
-      move ! (1 ∷ []) $ split ! $ owned ! (Array u64 256) (Is (Array u64 256)) (array-makes 𝓤 H A W u64 (uint-makes 𝓤 H A W w64) 256) (h .tags) _ (is-tags h _ was) $ move ! (1 ∷ 0 ∷ []) $ use2 W (‵ (mem (Array u64 256) .lies (h .tags) b (o + 2160))) (in-u64x256 𝓤 H A W b (o + 2160) (h .tags)) $
-      move ! (1 ∷ []) $ split ! $ owned ! (Array u8 256) (Is (Array u8 256)) (array-makes 𝓤 H A W u8 (uint-makes 𝓤 H A W w8) 256) (h .identities) _ (is-identities h _ was) $ move ! (1 ∷ 0 ∷ []) $ use2 W (‵ (mem (Array u8 256) .lies (h .identities) b (o + 4208))) (in-u8x256 𝓤 H A W b (o + 4208) (h .identities)) $
-      move ! (1 ∷ []) $ split ! $ owned ! (Array u16 256) (Is (Array u16 256)) (array-makes 𝓤 H A W u16 (uint-makes 𝓤 H A W w16) 256) (h .columns) _ (is-columns h _ was) $ move ! (1 ∷ 0 ∷ []) $ use2 W (‵ (mem (Array u16 256) .lies (h .columns) b (o + 4464))) (in-u16x256 𝓤 H A W b (o + 4464) (h .columns)) $
+      qed W (‵ (fat fullShare T′.mir b o (mach (arr-u64x6 (h .head)) (arr-u32x16 (h .«stream_xids»)) (arr-u8x16 (h .«stream_changed»)) (arr-u64x256 (h .keys)) (arr-u64x256 (h .tags)) (arr-u8x256 (h .identities)) (arr-u16x256 (h .columns)))) ∷ (‵ (flft κ′ q′) ⊛ ‵ ftrue) ∷ ‵ (ShrSlice (named 1) κ′ u8 .own bytes (sliceVal (bytes .ptr) (length (bytes .now)) ∷ [])) ∷ []) ∵ updating ! $ use1 W (‵ (fat fullShare (tyArray (tyInt w64) 6) b (o + 0) (arr-u64x6 (h .head))) ⊛ ‵ (fat fullShare (tyArray (tyInt w32) 16) b (o + 48) (arr-u32x16 (h .«stream_xids»))) ⊛ ‵ (fat fullShare (tyArray (tyInt w8) 16) b (o + 112) (arr-u8x16 (h .«stream_changed»))) ⊛ ‵ (fat fullShare (tyArray (tyInt w64) 256) b (o + 128) (arr-u64x256 (h .keys))) ⊛ ‵ (fat fullShare (tyArray (tyInt w64) 256) b (o + 2176) (arr-u64x256 (h .tags))) ⊛ ‵ (fat fullShare (tyArray (tyInt w8) 256) b (o + 4224) (arr-u8x256 (h .identities))) ⊛ ‵ (fat fullShare (tyArray (tyInt w16) 256) b (o + 4480) (arr-u16x256 (h .columns))) ⊛ raw Kept) (fields-out (arr-u64x6 (h .head)) (arr-u32x16 (h .«stream_xids»)) (arr-u8x16 (h .«stream_changed»)) (arr-u64x256 (h .keys)) (arr-u64x256 (h .tags)) (arr-u8x256 (h .identities)) (arr-u16x256 (h .columns))) $
+      split ! $ owned ! (Array u64 6) (Is (Array u64 6)) (array-makes 𝓤 H A W u64 (uint-makes 𝓤 H A W w64) 6) (h .head) _ (is-head h _ was) $ move ! (1 ∷ 0 ∷ []) $ use2 W (‵ (mem (Array u64 6) .lies (h .head) b (o + 0))) (in-u64x6 𝓤 H A W b (o + 0) (h .head)) $
+      move ! (1 ∷ []) $ split ! $ owned ! (Array u32 16) (Is (Array u32 16)) (array-makes 𝓤 H A W u32 (uint-makes 𝓤 H A W w32) 16) (h .«stream_xids») _ (is-stream-xids h _ was) $ move ! (1 ∷ 0 ∷ []) $ use2 W (‵ (mem (Array u32 16) .lies (h .«stream_xids») b (o + 48))) (in-u32x16 𝓤 H A W b (o + 48) (h .«stream_xids»)) $
+      move ! (1 ∷ []) $ split ! $ owned ! (Array u8 16) (Is (Array u8 16)) (array-makes 𝓤 H A W u8 (uint-makes 𝓤 H A W w8) 16) (h .«stream_changed») _ (is-stream-changed h _ was) $ move ! (1 ∷ 0 ∷ []) $ use2 W (‵ (mem (Array u8 16) .lies (h .«stream_changed») b (o + 112))) (in-u8x16 𝓤 H A W b (o + 112) (h .«stream_changed»)) $
+      move ! (1 ∷ []) $ split ! $ owned ! (Array u64 256) (Is (Array u64 256)) (array-makes 𝓤 H A W u64 (uint-makes 𝓤 H A W w64) 256) (h .keys) _ (is-keys h _ was) $ move ! (1 ∷ 0 ∷ []) $ use2 W (‵ (mem (Array u64 256) .lies (h .keys) b (o + 128))) (in-u64x256 𝓤 H A W b (o + 128) (h .keys)) $
+      move ! (1 ∷ []) $ split ! $ owned ! (Array u64 256) (Is (Array u64 256)) (array-makes 𝓤 H A W u64 (uint-makes 𝓤 H A W w64) 256) (h .tags) _ (is-tags h _ was) $ move ! (1 ∷ 0 ∷ []) $ use2 W (‵ (mem (Array u64 256) .lies (h .tags) b (o + 2176))) (in-u64x256 𝓤 H A W b (o + 2176) (h .tags)) $
+      move ! (1 ∷ []) $ split ! $ owned ! (Array u8 256) (Is (Array u8 256)) (array-makes 𝓤 H A W u8 (uint-makes 𝓤 H A W w8) 256) (h .identities) _ (is-identities h _ was) $ move ! (1 ∷ 0 ∷ []) $ use2 W (‵ (mem (Array u8 256) .lies (h .identities) b (o + 4224))) (in-u8x256 𝓤 H A W b (o + 4224) (h .identities)) $
+      move ! (1 ∷ []) $ split ! $ owned ! (Array u16 256) (Is (Array u16 256)) (array-makes 𝓤 H A W u16 (uint-makes 𝓤 H A W w16) 256) (h .columns) _ (is-columns h _ was) $ move ! (1 ∷ 0 ∷ []) $ use2 W (‵ (mem (Array u16 256) .lies (h .columns) b (o + 4480))) (in-u16x256 𝓤 H A W b (o + 4480) (h .columns)) $
       lft-new ! tt (λ ν.
-      move ! (13 ∷ []) $ use1 W (later (some (λ (δ : GName). ‵ (MutRef (named 0) (ν ∷ []) u32 .own (lent0 δ) (vptr b (o + 0) ∷ [])) ⊛ ‵ (flent (ν ∷ []) (Body (mem u32) b (o + 0) δ))))) (lends-ref 𝓤 H A W u32 (named 0) (ν ∷ []) (h .version) b (o + 0)) $ await ! tt $ pick ! (λ δ0. split ! $
-      move ! (14 ∷ []) $ use1 W (later (some (λ (δ : GName). ‵ (MutRef (named 0) (ν ∷ []) u8 .own (lent1 δ) (vptr b (o + 4) ∷ [])) ⊛ ‵ (flent (ν ∷ []) (Body (mem u8) b (o + 4) δ))))) (lends-ref 𝓤 H A W u8 (named 0) (ν ∷ []) (h .phase) b (o + 4)) $ await ! tt $ pick ! (λ δ1. split ! $
-      move ! (15 ∷ []) $ use1 W (later (some (λ (δ : GName). ‵ (MutRef (named 0) (ν ∷ []) u32 .own (lent2 δ) (vptr b (o + 8) ∷ [])) ⊛ ‵ (flent (ν ∷ []) (Body (mem u32) b (o + 8) δ))))) (lends-ref 𝓤 H A W u32 (named 0) (ν ∷ []) (h .«current_xid») b (o + 8)) $ await ! tt $ pick ! (λ δ2. split ! $
-      move ! (16 ∷ []) $ use1 W (later (some (λ (δ : GName). ‵ (MutRef (named 0) (ν ∷ []) u64 .own (lent3 δ) (vptr b (o + 16) ∷ [])) ⊛ ‵ (flent (ν ∷ []) (Body (mem u64) b (o + 16) δ))))) (lends-ref 𝓤 H A W u64 (named 0) (ν ∷ []) (h .«final_lsn») b (o + 16)) $ await ! tt $ pick ! (λ δ3. split ! $
-      move ! (17 ∷ []) $ use1 W (later (some (λ (δ : GName). ‵ (MutRef (named 0) (ν ∷ []) u8 .own (lent4 δ) (vptr b (o + 24) ∷ [])) ⊛ ‵ (flent (ν ∷ []) (Body (mem u8) b (o + 24) δ))))) (lends-ref 𝓤 H A W u8 (named 0) (ν ∷ []) (h .changed) b (o + 24)) $ await ! tt $ pick ! (λ δ4. split ! $
-      move ! (18 ∷ []) $ use1 W (later (some (λ (δ : GName). ‵ (MutRef (named 0) (ν ∷ []) (Array u32 16) .own (lent5 δ) (vptr b (o + 28) ∷ [])) ⊛ ‵ (flent (ν ∷ []) (Body (mem (Array u32 16)) b (o + 28) δ))))) (lends-ref 𝓤 H A W (Array u32 16) (named 0) (ν ∷ []) (h .«stream_xids») b (o + 28)) $ await ! tt $ pick ! (λ δ5. split ! $
-      move ! (19 ∷ []) $ use1 W (later (some (λ (δ : GName). ‵ (MutRef (named 0) (ν ∷ []) (Array u8 16) .own (lent6 δ) (vptr b (o + 92) ∷ [])) ⊛ ‵ (flent (ν ∷ []) (Body (mem (Array u8 16)) b (o + 92) δ))))) (lends-ref 𝓤 H A W (Array u8 16) (named 0) (ν ∷ []) (h .«stream_changed») b (o + 92)) $ await ! tt $ pick ! (λ δ6. split ! $
-      move ! (20 ∷ []) $ use1 W (later (some (λ (δ : GName). ‵ (MutRef (named 0) (ν ∷ []) u16 .own (lent7 δ) (vptr b (o + 108) ∷ [])) ⊛ ‵ (flent (ν ∷ []) (Body (mem u16) b (o + 108) δ))))) (lends-ref 𝓤 H A W u16 (named 0) (ν ∷ []) (h .rows) b (o + 108)) $ await ! tt $ pick ! (λ δ7. split ! $
-      move ! (21 ∷ []) $ use1 W (later (some (λ (δ : GName). ‵ (MutRef (named 0) (ν ∷ []) (Array u64 256) .own (lent8 δ) (vptr b (o + 112) ∷ [])) ⊛ ‵ (flent (ν ∷ []) (Body (mem (Array u64 256)) b (o + 112) δ))))) (lends-ref 𝓤 H A W (Array u64 256) (named 0) (ν ∷ []) (h .keys) b (o + 112)) $ await ! tt $ pick ! (λ δ8. split ! $
-      move ! (22 ∷ []) $ use1 W (later (some (λ (δ : GName). ‵ (MutRef (named 0) (ν ∷ []) (Array u64 256) .own (lent9 δ) (vptr b (o + 2160) ∷ [])) ⊛ ‵ (flent (ν ∷ []) (Body (mem (Array u64 256)) b (o + 2160) δ))))) (lends-ref 𝓤 H A W (Array u64 256) (named 0) (ν ∷ []) (h .tags) b (o + 2160)) $ await ! tt $ pick ! (λ δ9. split ! $
-      move ! (23 ∷ []) $ use1 W (later (some (λ (δ : GName). ‵ (MutRef (named 0) (ν ∷ []) (Array u8 256) .own (lent10 δ) (vptr b (o + 4208) ∷ [])) ⊛ ‵ (flent (ν ∷ []) (Body (mem (Array u8 256)) b (o + 4208) δ))))) (lends-ref 𝓤 H A W (Array u8 256) (named 0) (ν ∷ []) (h .identities) b (o + 4208)) $ await ! tt $ pick ! (λ δ10. split ! $
-      move ! (23 ∷ []) $ use1 W (later (some (λ (δ : GName). ‵ (MutRef (named 0) (ν ∷ []) (Array u16 256) .own (lent11 δ) (vptr b (o + 4464) ∷ [])) ⊛ ‵ (flent (ν ∷ []) (Body (mem (Array u16 256)) b (o + 4464) δ))))) (lends-ref 𝓤 H A W (Array u16 256) (named 0) (ν ∷ []) (h .columns) b (o + 4464)) $ await ! tt $ pick ! (λ δ11. split ! $
-      move ! (24 ∷ 22 ∷ 20 ∷ 18 ∷ 16 ∷ 14 ∷ 12 ∷ 10 ∷ 8 ∷ 6 ∷ 4 ∷ 2 ∷ 0 ∷ 26 ∷ 27 ∷ 23 ∷ 21 ∷ 19 ∷ 17 ∷ 15 ∷ 13 ∷ 11 ∷ 9 ∷ 7 ∷ 5 ∷ 3 ∷ 1 ∷ 25 ∷ []) $ group ! 15 $ use1 W (raw (GC 𝓤 H A at-mem run .pre (to ν δ0 δ1 δ2 δ3 δ4 δ5 δ6 δ7 δ8 δ9 δ10 δ11))) (goes ν δ0 δ1 δ2 δ3 δ4 δ5 δ6 δ7 δ8 δ9 δ10 δ11) $ at-once ! $ show ! Lent (ν, (δ0, (δ1, (δ2, (δ3, (δ4, (δ5, (δ6, (δ7, (δ8, (δ9, (δ10, (δ11, tt))))))))))))) $ done !)))))))))))))
+      move ! (8 ∷ []) $ use1 W (later (some (λ (δ : GName). ‵ (MutRef (named 0) (ν ∷ []) (Array u64 6) .own (lent0 δ) (vptr b (o + 0) ∷ [])) ⊛ ‵ (flent (ν ∷ []) (Body (mem (Array u64 6)) b (o + 0) δ))))) (lends-ref 𝓤 H A W (Array u64 6) (named 0) (ν ∷ []) (h .head) b (o + 0)) $ await ! tt $ pick ! (λ δ0. split ! $
+      move ! (9 ∷ []) $ use1 W (later (some (λ (δ : GName). ‵ (MutRef (named 0) (ν ∷ []) (Array u32 16) .own (lent1 δ) (vptr b (o + 48) ∷ [])) ⊛ ‵ (flent (ν ∷ []) (Body (mem (Array u32 16)) b (o + 48) δ))))) (lends-ref 𝓤 H A W (Array u32 16) (named 0) (ν ∷ []) (h .«stream_xids») b (o + 48)) $ await ! tt $ pick ! (λ δ1. split ! $
+      move ! (10 ∷ []) $ use1 W (later (some (λ (δ : GName). ‵ (MutRef (named 0) (ν ∷ []) (Array u8 16) .own (lent2 δ) (vptr b (o + 112) ∷ [])) ⊛ ‵ (flent (ν ∷ []) (Body (mem (Array u8 16)) b (o + 112) δ))))) (lends-ref 𝓤 H A W (Array u8 16) (named 0) (ν ∷ []) (h .«stream_changed») b (o + 112)) $ await ! tt $ pick ! (λ δ2. split ! $
+      move ! (11 ∷ []) $ use1 W (later (some (λ (δ : GName). ‵ (MutRef (named 0) (ν ∷ []) (Array u64 256) .own (lent3 δ) (vptr b (o + 128) ∷ [])) ⊛ ‵ (flent (ν ∷ []) (Body (mem (Array u64 256)) b (o + 128) δ))))) (lends-ref 𝓤 H A W (Array u64 256) (named 0) (ν ∷ []) (h .keys) b (o + 128)) $ await ! tt $ pick ! (λ δ3. split ! $
+      move ! (12 ∷ []) $ use1 W (later (some (λ (δ : GName). ‵ (MutRef (named 0) (ν ∷ []) (Array u64 256) .own (lent4 δ) (vptr b (o + 2176) ∷ [])) ⊛ ‵ (flent (ν ∷ []) (Body (mem (Array u64 256)) b (o + 2176) δ))))) (lends-ref 𝓤 H A W (Array u64 256) (named 0) (ν ∷ []) (h .tags) b (o + 2176)) $ await ! tt $ pick ! (λ δ4. split ! $
+      move ! (13 ∷ []) $ use1 W (later (some (λ (δ : GName). ‵ (MutRef (named 0) (ν ∷ []) (Array u8 256) .own (lent5 δ) (vptr b (o + 4224) ∷ [])) ⊛ ‵ (flent (ν ∷ []) (Body (mem (Array u8 256)) b (o + 4224) δ))))) (lends-ref 𝓤 H A W (Array u8 256) (named 0) (ν ∷ []) (h .identities) b (o + 4224)) $ await ! tt $ pick ! (λ δ5. split ! $
+      move ! (13 ∷ []) $ use1 W (later (some (λ (δ : GName). ‵ (MutRef (named 0) (ν ∷ []) (Array u16 256) .own (lent6 δ) (vptr b (o + 4480) ∷ [])) ⊛ ‵ (flent (ν ∷ []) (Body (mem (Array u16 256)) b (o + 4480) δ))))) (lends-ref 𝓤 H A W (Array u16 256) (named 0) (ν ∷ []) (h .columns) b (o + 4480)) $ await ! tt $ pick ! (λ δ6. split ! $
+      move ! (14 ∷ 12 ∷ 10 ∷ 8 ∷ 6 ∷ 4 ∷ 2 ∷ 0 ∷ 16 ∷ 17 ∷ 13 ∷ 11 ∷ 9 ∷ 7 ∷ 5 ∷ 3 ∷ 1 ∷ 15 ∷ []) $ group ! 10 $ use1 W (raw (GC 𝓤 H A at-mem run .pre (to ν δ0 δ1 δ2 δ3 δ4 δ5 δ6))) (goes ν δ0 δ1 δ2 δ3 δ4 δ5 δ6) $ at-once ! $ show ! Lent (ν, (δ0, (δ1, (δ2, (δ3, (δ4, (δ5, (δ6, tt)))))))) $ done !))))))))
 
-  abbrev Iss : ℕ × (ℕ × (ℕ × (ℕ × (ℕ × (List ℕ × (List ℕ × (ℕ × (List ℕ × (List ℕ × (List ℕ × (List ℕ × (Unit {0} × (Unit {0} × (Unit {0})))))))))))))) → Type 0
-  Iss zs = (Is u32 (zs .0) ((vint w32 (zs .0)) ∷ [])) × ((Is u8 (zs .1 .0) ((vint w8 (zs .1 .0)) ∷ [])) × ((Is u32 (zs .1 .1 .0) ((vint w32 (zs .1 .1 .0)) ∷ [])) × ((Is u64 (zs .1 .1 .1 .0) ((vint w64 (zs .1 .1 .1 .0)) ∷ [])) × ((Is u8 (zs .1 .1 .1 .1 .0) ((vint w8 (zs .1 .1 .1 .1 .0)) ∷ [])) × ((Is (Array u32 16) (zs .1 .1 .1 .1 .1 .0) ((arr-u32x16 (zs .1 .1 .1 .1 .1 .0)) ∷ [])) × ((Is (Array u8 16) (zs .1 .1 .1 .1 .1 .1 .0) ((arr-u8x16 (zs .1 .1 .1 .1 .1 .1 .0)) ∷ [])) × ((Is u16 (zs .1 .1 .1 .1 .1 .1 .1 .0) ((vint w16 (zs .1 .1 .1 .1 .1 .1 .1 .0)) ∷ [])) × ((Is (Array u64 256) (zs .1 .1 .1 .1 .1 .1 .1 .1 .0) ((arr-u64x256 (zs .1 .1 .1 .1 .1 .1 .1 .1 .0)) ∷ [])) × ((Is (Array u64 256) (zs .1 .1 .1 .1 .1 .1 .1 .1 .1 .0) ((arr-u64x256 (zs .1 .1 .1 .1 .1 .1 .1 .1 .1 .0)) ∷ [])) × ((Is (Array u8 256) (zs .1 .1 .1 .1 .1 .1 .1 .1 .1 .1 .0) ((arr-u8x256 (zs .1 .1 .1 .1 .1 .1 .1 .1 .1 .1 .0)) ∷ [])) × ((Is (Array u16 256) (zs .1 .1 .1 .1 .1 .1 .1 .1 .1 .1 .1 .0) ((arr-u16x256 (zs .1 .1 .1 .1 .1 .1 .1 .1 .1 .1 .1 .0)) ∷ [])) × (Unit {0}))))))))))))
+  abbrev Iss : List ℕ × (List ℕ × (List ℕ × (List ℕ × (List ℕ × (List ℕ × (List ℕ × (Unit {0} × (Unit {0} × (Unit {0}))))))))) → Type 0
+  Iss zs = (Is (Array u64 6) (zs .0) ((arr-u64x6 (zs .0)) ∷ [])) × ((Is (Array u32 16) (zs .1 .0) ((arr-u32x16 (zs .1 .0)) ∷ [])) × ((Is (Array u8 16) (zs .1 .1 .0) ((arr-u8x16 (zs .1 .1 .0)) ∷ [])) × ((Is (Array u64 256) (zs .1 .1 .1 .0) ((arr-u64x256 (zs .1 .1 .1 .0)) ∷ [])) × ((Is (Array u64 256) (zs .1 .1 .1 .1 .0) ((arr-u64x256 (zs .1 .1 .1 .1 .0)) ∷ [])) × ((Is (Array u8 256) (zs .1 .1 .1 .1 .1 .0) ((arr-u8x256 (zs .1 .1 .1 .1 .1 .0)) ∷ [])) × ((Is (Array u16 256) (zs .1 .1 .1 .1 .1 .1 .0) ((arr-u16x256 (zs .1 .1 .1 .1 .1 .1 .0)) ∷ [])) × (Unit {0})))))))
 
   -- the lifetime is ended, and the fields come back at their last values, each a value of its type
-  back-all : (ν : ℕ) (δ : Names) (zs : ℕ × (ℕ × (ℕ × (ℕ × (ℕ × (List ℕ × (List ℕ × (ℕ × (List ℕ × (List ℕ × (List ℕ × (List ℕ × (Unit {0} × (Unit {0} × (Unit {0}))))))))))))))) → ent 𝓤 (sep 𝓤 (A .lft (ν ∷ []) fullShare) (sep 𝓤 (sem 𝓤 H A (lasts g.ended (ν ∷ [], (κ′, tt)) (lent0 (δ .0), (lent1 (δ .1 .0), (lent2 (δ .1 .1 .0), (lent3 (δ .1 .1 .1 .0), (lent4 (δ .1 .1 .1 .1 .0), (lent5 (δ .1 .1 .1 .1 .1 .0), (lent6 (δ .1 .1 .1 .1 .1 .1 .0), (lent7 (δ .1 .1 .1 .1 .1 .1 .1 .0), (lent8 (δ .1 .1 .1 .1 .1 .1 .1 .1 .0), (lent9 (δ .1 .1 .1 .1 .1 .1 .1 .1 .1 .0), (lent10 (δ .1 .1 .1 .1 .1 .1 .1 .1 .1 .1 .0), (lent11 (δ .1 .1 .1 .1 .1 .1 .1 .1 .1 .1 .1 .0), (bytes, (tag, tt)))))))))))))) zs)) (Lents ν δ))) (H .⇛ (guard 𝓤 (Iss zs) (H .at fullShare T′.mir b o (mach (vint w32 (zs .0)) (vint w8 (zs .1 .0)) (vint w32 (zs .1 .1 .0)) (vint w64 (zs .1 .1 .1 .0)) (vint w8 (zs .1 .1 .1 .1 .0)) (arr-u32x16 (zs .1 .1 .1 .1 .1 .0)) (arr-u8x16 (zs .1 .1 .1 .1 .1 .1 .0)) (vint w16 (zs .1 .1 .1 .1 .1 .1 .1 .0)) (arr-u64x256 (zs .1 .1 .1 .1 .1 .1 .1 .1 .0)) (arr-u64x256 (zs .1 .1 .1 .1 .1 .1 .1 .1 .1 .0)) (arr-u8x256 (zs .1 .1 .1 .1 .1 .1 .1 .1 .1 .1 .0)) (arr-u16x256 (zs .1 .1 .1 .1 .1 .1 .1 .1 .1 .1 .1 .0))))))
+  back-all : (ν : ℕ) (δ : Names) (zs : List ℕ × (List ℕ × (List ℕ × (List ℕ × (List ℕ × (List ℕ × (List ℕ × (Unit {0} × (Unit {0} × (Unit {0})))))))))) → ent 𝓤 (sep 𝓤 (A .lft (ν ∷ []) fullShare) (sep 𝓤 (sem 𝓤 H A (lasts g.ended (ν ∷ [], (κ′, tt)) (lent0 (δ .0), (lent1 (δ .1 .0), (lent2 (δ .1 .1 .0), (lent3 (δ .1 .1 .1 .0), (lent4 (δ .1 .1 .1 .1 .0), (lent5 (δ .1 .1 .1 .1 .1 .0), (lent6 (δ .1 .1 .1 .1 .1 .1 .0), (bytes, (tag, tt))))))))) zs)) (Lents ν δ))) (H .⇛ (guard 𝓤 (Iss zs) (H .at fullShare T′.mir b o (mach (arr-u64x6 (zs .0)) (arr-u32x16 (zs .1 .0)) (arr-u8x16 (zs .1 .1 .0)) (arr-u64x256 (zs .1 .1 .1 .0)) (arr-u64x256 (zs .1 .1 .1 .1 .0)) (arr-u8x256 (zs .1 .1 .1 .1 .1 .0)) (arr-u16x256 (zs .1 .1 .1 .1 .1 .1 .0))))))
   back-all ν δ zs =
-      qed W (‵ (flft (ν ∷ []) fullShare) ∷ ‵ (lasts g.ended (ν ∷ [], (κ′, tt)) (lent0 (δ .0), (lent1 (δ .1 .0), (lent2 (δ .1 .1 .0), (lent3 (δ .1 .1 .1 .0), (lent4 (δ .1 .1 .1 .1 .0), (lent5 (δ .1 .1 .1 .1 .1 .0), (lent6 (δ .1 .1 .1 .1 .1 .1 .0), (lent7 (δ .1 .1 .1 .1 .1 .1 .1 .0), (lent8 (δ .1 .1 .1 .1 .1 .1 .1 .1 .0), (lent9 (δ .1 .1 .1 .1 .1 .1 .1 .1 .1 .0), (lent10 (δ .1 .1 .1 .1 .1 .1 .1 .1 .1 .1 .0), (lent11 (δ .1 .1 .1 .1 .1 .1 .1 .1 .1 .1 .1 .0), (bytes, (tag, tt)))))))))))))) zs) ∷ ‵ (flent (ν ∷ []) (Body (mem u32) b (o + 0) (δ .0))) ∷ ‵ (flent (ν ∷ []) (Body (mem u8) b (o + 4) (δ .1 .0))) ∷ ‵ (flent (ν ∷ []) (Body (mem u32) b (o + 8) (δ .1 .1 .0))) ∷ ‵ (flent (ν ∷ []) (Body (mem u64) b (o + 16) (δ .1 .1 .1 .0))) ∷ ‵ (flent (ν ∷ []) (Body (mem u8) b (o + 24) (δ .1 .1 .1 .1 .0))) ∷ ‵ (flent (ν ∷ []) (Body (mem (Array u32 16)) b (o + 28) (δ .1 .1 .1 .1 .1 .0))) ∷ ‵ (flent (ν ∷ []) (Body (mem (Array u8 16)) b (o + 92) (δ .1 .1 .1 .1 .1 .1 .0))) ∷ ‵ (flent (ν ∷ []) (Body (mem u16) b (o + 108) (δ .1 .1 .1 .1 .1 .1 .1 .0))) ∷ ‵ (flent (ν ∷ []) (Body (mem (Array u64 256)) b (o + 112) (δ .1 .1 .1 .1 .1 .1 .1 .1 .0))) ∷ ‵ (flent (ν ∷ []) (Body (mem (Array u64 256)) b (o + 2160) (δ .1 .1 .1 .1 .1 .1 .1 .1 .1 .0))) ∷ ‵ (flent (ν ∷ []) (Body (mem (Array u8 256)) b (o + 4208) (δ .1 .1 .1 .1 .1 .1 .1 .1 .1 .1 .0))) ∷ ‵ (flent (ν ∷ []) (Body (mem (Array u16 256)) b (o + 4464) (δ .1 .1 .1 .1 .1 .1 .1 .1 .1 .1 .1 .0))) ∷ raw Kept ∷ []) ∵ updating ! $ move ! (1 ∷ []) $ fsplit ! $ move ! (1 ∷ []) $ fsplit ! $ move ! (1 ∷ []) $ fsplit ! $ move ! (1 ∷ []) $ fsplit ! $ move ! (1 ∷ []) $ fsplit ! $ move ! (1 ∷ []) $ fsplit ! $ move ! (1 ∷ []) $ fsplit ! $ move ! (1 ∷ []) $ fsplit ! $ move ! (1 ∷ []) $ fsplit ! $ move ! (1 ∷ []) $ fsplit ! $ move ! (1 ∷ []) $ fsplit ! $ move ! (1 ∷ []) $ fsplit ! $ move ! (1 ∷ []) $ drop ! $
-      move ! (12 ∷ []) $ lft-end ! tt $ use1 W (‵ (fdead (ν ∷ [])) ⊛ ‵ (fdead (ν ∷ []))) (W .lfts .dead-dup (ν ∷ [])) $ split ! $ use1 W (‵ (fdead (ν ∷ [])) ⊛ ‵ (fdead (ν ∷ []))) (W .lfts .dead-dup (ν ∷ [])) $ split ! $ use1 W (‵ (fdead (ν ∷ [])) ⊛ ‵ (fdead (ν ∷ []))) (W .lfts .dead-dup (ν ∷ [])) $ split ! $ use1 W (‵ (fdead (ν ∷ [])) ⊛ ‵ (fdead (ν ∷ []))) (W .lfts .dead-dup (ν ∷ [])) $ split ! $ use1 W (‵ (fdead (ν ∷ [])) ⊛ ‵ (fdead (ν ∷ []))) (W .lfts .dead-dup (ν ∷ [])) $ split ! $ use1 W (‵ (fdead (ν ∷ [])) ⊛ ‵ (fdead (ν ∷ []))) (W .lfts .dead-dup (ν ∷ [])) $ split ! $ use1 W (‵ (fdead (ν ∷ [])) ⊛ ‵ (fdead (ν ∷ []))) (W .lfts .dead-dup (ν ∷ [])) $ split ! $ use1 W (‵ (fdead (ν ∷ [])) ⊛ ‵ (fdead (ν ∷ []))) (W .lfts .dead-dup (ν ∷ [])) $ split ! $ use1 W (‵ (fdead (ν ∷ [])) ⊛ ‵ (fdead (ν ∷ []))) (W .lfts .dead-dup (ν ∷ [])) $ split ! $ use1 W (‵ (fdead (ν ∷ [])) ⊛ ‵ (fdead (ν ∷ []))) (W .lfts .dead-dup (ν ∷ [])) $ split ! $ use1 W (‵ (fdead (ν ∷ [])) ⊛ ‵ (fdead (ν ∷ []))) (W .lfts .dead-dup (ν ∷ [])) $ split ! $
-      move ! (0 ∷ 24 ∷ 23 ∷ []) $ use3 W (later (‵ (mem u32 .lies (zs .0) b (o + 0)))) (ref-back 𝓤 H A W u32 (ν ∷ []) (δ .0) (zs .0) b (o + 0)) $ await ! tt $ use1 W (‵ (fat fullShare (tyInt w32) b (o + 0) (vint w32 (zs .0))) ⊛ ‵ (u32 .own (zs .0) ((vint w32 (zs .0)) ∷ []))) (out-u32 𝓤 H A W b (o + 0) (zs .0)) $ split ! $ move ! (1 ∷ []) $ peeks ! u32 (Is u32) (shows 𝓤 H A u32) (zs .0) ((vint w32 (zs .0)) ∷ []) (λ is0. drop ! $
-      move ! (1 ∷ 23 ∷ 22 ∷ []) $ use3 W (later (‵ (mem u8 .lies (zs .1 .0) b (o + 4)))) (ref-back 𝓤 H A W u8 (ν ∷ []) (δ .1 .0) (zs .1 .0) b (o + 4)) $ await ! tt $ use1 W (‵ (fat fullShare (tyInt w8) b (o + 4) (vint w8 (zs .1 .0))) ⊛ ‵ (u8 .own (zs .1 .0) ((vint w8 (zs .1 .0)) ∷ []))) (out-u8 𝓤 H A W b (o + 4) (zs .1 .0)) $ split ! $ move ! (1 ∷ []) $ peeks ! u8 (Is u8) (shows 𝓤 H A u8) (zs .1 .0) ((vint w8 (zs .1 .0)) ∷ []) (λ is1. drop ! $
-      move ! (2 ∷ 22 ∷ 21 ∷ []) $ use3 W (later (‵ (mem u32 .lies (zs .1 .1 .0) b (o + 8)))) (ref-back 𝓤 H A W u32 (ν ∷ []) (δ .1 .1 .0) (zs .1 .1 .0) b (o + 8)) $ await ! tt $ use1 W (‵ (fat fullShare (tyInt w32) b (o + 8) (vint w32 (zs .1 .1 .0))) ⊛ ‵ (u32 .own (zs .1 .1 .0) ((vint w32 (zs .1 .1 .0)) ∷ []))) (out-u32 𝓤 H A W b (o + 8) (zs .1 .1 .0)) $ split ! $ move ! (1 ∷ []) $ peeks ! u32 (Is u32) (shows 𝓤 H A u32) (zs .1 .1 .0) ((vint w32 (zs .1 .1 .0)) ∷ []) (λ is2. drop ! $
-      move ! (3 ∷ 21 ∷ 20 ∷ []) $ use3 W (later (‵ (mem u64 .lies (zs .1 .1 .1 .0) b (o + 16)))) (ref-back 𝓤 H A W u64 (ν ∷ []) (δ .1 .1 .1 .0) (zs .1 .1 .1 .0) b (o + 16)) $ await ! tt $ use1 W (‵ (fat fullShare (tyInt w64) b (o + 16) (vint w64 (zs .1 .1 .1 .0))) ⊛ ‵ (u64 .own (zs .1 .1 .1 .0) ((vint w64 (zs .1 .1 .1 .0)) ∷ []))) (out-u64 𝓤 H A W b (o + 16) (zs .1 .1 .1 .0)) $ split ! $ move ! (1 ∷ []) $ peeks ! u64 (Is u64) (shows 𝓤 H A u64) (zs .1 .1 .1 .0) ((vint w64 (zs .1 .1 .1 .0)) ∷ []) (λ is3. drop ! $
-      move ! (4 ∷ 20 ∷ 19 ∷ []) $ use3 W (later (‵ (mem u8 .lies (zs .1 .1 .1 .1 .0) b (o + 24)))) (ref-back 𝓤 H A W u8 (ν ∷ []) (δ .1 .1 .1 .1 .0) (zs .1 .1 .1 .1 .0) b (o + 24)) $ await ! tt $ use1 W (‵ (fat fullShare (tyInt w8) b (o + 24) (vint w8 (zs .1 .1 .1 .1 .0))) ⊛ ‵ (u8 .own (zs .1 .1 .1 .1 .0) ((vint w8 (zs .1 .1 .1 .1 .0)) ∷ []))) (out-u8 𝓤 H A W b (o + 24) (zs .1 .1 .1 .1 .0)) $ split ! $ move ! (1 ∷ []) $ peeks ! u8 (Is u8) (shows 𝓤 H A u8) (zs .1 .1 .1 .1 .0) ((vint w8 (zs .1 .1 .1 .1 .0)) ∷ []) (λ is4. drop ! $
-      move ! (5 ∷ 19 ∷ 18 ∷ []) $ use3 W (later (‵ (mem (Array u32 16) .lies (zs .1 .1 .1 .1 .1 .0) b (o + 28)))) (ref-back 𝓤 H A W (Array u32 16) (ν ∷ []) (δ .1 .1 .1 .1 .1 .0) (zs .1 .1 .1 .1 .1 .0) b (o + 28)) $ await ! tt $ use1 W (‵ (fat fullShare (tyArray (tyInt w32) 16) b (o + 28) (arr-u32x16 (zs .1 .1 .1 .1 .1 .0))) ⊛ ‵ ((Array u32 16) .own (zs .1 .1 .1 .1 .1 .0) ((arr-u32x16 (zs .1 .1 .1 .1 .1 .0)) ∷ []))) (out-u32x16 𝓤 H A W b (o + 28) (zs .1 .1 .1 .1 .1 .0)) $ split ! $ move ! (1 ∷ []) $ peeks ! (Array u32 16) (Is (Array u32 16)) (shows 𝓤 H A (Array u32 16)) (zs .1 .1 .1 .1 .1 .0) ((arr-u32x16 (zs .1 .1 .1 .1 .1 .0)) ∷ []) (λ is5. drop ! $
-      move ! (6 ∷ 18 ∷ 17 ∷ []) $ use3 W (later (‵ (mem (Array u8 16) .lies (zs .1 .1 .1 .1 .1 .1 .0) b (o + 92)))) (ref-back 𝓤 H A W (Array u8 16) (ν ∷ []) (δ .1 .1 .1 .1 .1 .1 .0) (zs .1 .1 .1 .1 .1 .1 .0) b (o + 92)) $ await ! tt $ use1 W (‵ (fat fullShare (tyArray (tyInt w8) 16) b (o + 92) (arr-u8x16 (zs .1 .1 .1 .1 .1 .1 .0))) ⊛ ‵ ((Array u8 16) .own (zs .1 .1 .1 .1 .1 .1 .0) ((arr-u8x16 (zs .1 .1 .1 .1 .1 .1 .0)) ∷ []))) (out-u8x16 𝓤 H A W b (o + 92) (zs .1 .1 .1 .1 .1 .1 .0)) $ split ! $ move ! (1 ∷ []) $ peeks ! (Array u8 16) (Is (Array u8 16)) (shows 𝓤 H A (Array u8 16)) (zs .1 .1 .1 .1 .1 .1 .0) ((arr-u8x16 (zs .1 .1 .1 .1 .1 .1 .0)) ∷ []) (λ is6. drop ! $
-      move ! (7 ∷ 17 ∷ 16 ∷ []) $ use3 W (later (‵ (mem u16 .lies (zs .1 .1 .1 .1 .1 .1 .1 .0) b (o + 108)))) (ref-back 𝓤 H A W u16 (ν ∷ []) (δ .1 .1 .1 .1 .1 .1 .1 .0) (zs .1 .1 .1 .1 .1 .1 .1 .0) b (o + 108)) $ await ! tt $ use1 W (‵ (fat fullShare (tyInt w16) b (o + 108) (vint w16 (zs .1 .1 .1 .1 .1 .1 .1 .0))) ⊛ ‵ (u16 .own (zs .1 .1 .1 .1 .1 .1 .1 .0) ((vint w16 (zs .1 .1 .1 .1 .1 .1 .1 .0)) ∷ []))) (out-u16 𝓤 H A W b (o + 108) (zs .1 .1 .1 .1 .1 .1 .1 .0)) $ split ! $ move ! (1 ∷ []) $ peeks ! u16 (Is u16) (shows 𝓤 H A u16) (zs .1 .1 .1 .1 .1 .1 .1 .0) ((vint w16 (zs .1 .1 .1 .1 .1 .1 .1 .0)) ∷ []) (λ is7. drop ! $
-      move ! (8 ∷ 16 ∷ 15 ∷ []) $ use3 W (later (‵ (mem (Array u64 256) .lies (zs .1 .1 .1 .1 .1 .1 .1 .1 .0) b (o + 112)))) (ref-back 𝓤 H A W (Array u64 256) (ν ∷ []) (δ .1 .1 .1 .1 .1 .1 .1 .1 .0) (zs .1 .1 .1 .1 .1 .1 .1 .1 .0) b (o + 112)) $ await ! tt $ use1 W (‵ (fat fullShare (tyArray (tyInt w64) 256) b (o + 112) (arr-u64x256 (zs .1 .1 .1 .1 .1 .1 .1 .1 .0))) ⊛ ‵ ((Array u64 256) .own (zs .1 .1 .1 .1 .1 .1 .1 .1 .0) ((arr-u64x256 (zs .1 .1 .1 .1 .1 .1 .1 .1 .0)) ∷ []))) (out-u64x256 𝓤 H A W b (o + 112) (zs .1 .1 .1 .1 .1 .1 .1 .1 .0)) $ split ! $ move ! (1 ∷ []) $ peeks ! (Array u64 256) (Is (Array u64 256)) (shows 𝓤 H A (Array u64 256)) (zs .1 .1 .1 .1 .1 .1 .1 .1 .0) ((arr-u64x256 (zs .1 .1 .1 .1 .1 .1 .1 .1 .0)) ∷ []) (λ is8. drop ! $
-      move ! (9 ∷ 15 ∷ 14 ∷ []) $ use3 W (later (‵ (mem (Array u64 256) .lies (zs .1 .1 .1 .1 .1 .1 .1 .1 .1 .0) b (o + 2160)))) (ref-back 𝓤 H A W (Array u64 256) (ν ∷ []) (δ .1 .1 .1 .1 .1 .1 .1 .1 .1 .0) (zs .1 .1 .1 .1 .1 .1 .1 .1 .1 .0) b (o + 2160)) $ await ! tt $ use1 W (‵ (fat fullShare (tyArray (tyInt w64) 256) b (o + 2160) (arr-u64x256 (zs .1 .1 .1 .1 .1 .1 .1 .1 .1 .0))) ⊛ ‵ ((Array u64 256) .own (zs .1 .1 .1 .1 .1 .1 .1 .1 .1 .0) ((arr-u64x256 (zs .1 .1 .1 .1 .1 .1 .1 .1 .1 .0)) ∷ []))) (out-u64x256 𝓤 H A W b (o + 2160) (zs .1 .1 .1 .1 .1 .1 .1 .1 .1 .0)) $ split ! $ move ! (1 ∷ []) $ peeks ! (Array u64 256) (Is (Array u64 256)) (shows 𝓤 H A (Array u64 256)) (zs .1 .1 .1 .1 .1 .1 .1 .1 .1 .0) ((arr-u64x256 (zs .1 .1 .1 .1 .1 .1 .1 .1 .1 .0)) ∷ []) (λ is9. drop ! $
-      move ! (10 ∷ 14 ∷ 13 ∷ []) $ use3 W (later (‵ (mem (Array u8 256) .lies (zs .1 .1 .1 .1 .1 .1 .1 .1 .1 .1 .0) b (o + 4208)))) (ref-back 𝓤 H A W (Array u8 256) (ν ∷ []) (δ .1 .1 .1 .1 .1 .1 .1 .1 .1 .1 .0) (zs .1 .1 .1 .1 .1 .1 .1 .1 .1 .1 .0) b (o + 4208)) $ await ! tt $ use1 W (‵ (fat fullShare (tyArray (tyInt w8) 256) b (o + 4208) (arr-u8x256 (zs .1 .1 .1 .1 .1 .1 .1 .1 .1 .1 .0))) ⊛ ‵ ((Array u8 256) .own (zs .1 .1 .1 .1 .1 .1 .1 .1 .1 .1 .0) ((arr-u8x256 (zs .1 .1 .1 .1 .1 .1 .1 .1 .1 .1 .0)) ∷ []))) (out-u8x256 𝓤 H A W b (o + 4208) (zs .1 .1 .1 .1 .1 .1 .1 .1 .1 .1 .0)) $ split ! $ move ! (1 ∷ []) $ peeks ! (Array u8 256) (Is (Array u8 256)) (shows 𝓤 H A (Array u8 256)) (zs .1 .1 .1 .1 .1 .1 .1 .1 .1 .1 .0) ((arr-u8x256 (zs .1 .1 .1 .1 .1 .1 .1 .1 .1 .1 .0)) ∷ []) (λ is10. drop ! $
-      move ! (11 ∷ 13 ∷ 12 ∷ []) $ use3 W (later (‵ (mem (Array u16 256) .lies (zs .1 .1 .1 .1 .1 .1 .1 .1 .1 .1 .1 .0) b (o + 4464)))) (ref-back 𝓤 H A W (Array u16 256) (ν ∷ []) (δ .1 .1 .1 .1 .1 .1 .1 .1 .1 .1 .1 .0) (zs .1 .1 .1 .1 .1 .1 .1 .1 .1 .1 .1 .0) b (o + 4464)) $ await ! tt $ use1 W (‵ (fat fullShare (tyArray (tyInt w16) 256) b (o + 4464) (arr-u16x256 (zs .1 .1 .1 .1 .1 .1 .1 .1 .1 .1 .1 .0))) ⊛ ‵ ((Array u16 256) .own (zs .1 .1 .1 .1 .1 .1 .1 .1 .1 .1 .1 .0) ((arr-u16x256 (zs .1 .1 .1 .1 .1 .1 .1 .1 .1 .1 .1 .0)) ∷ []))) (out-u16x256 𝓤 H A W b (o + 4464) (zs .1 .1 .1 .1 .1 .1 .1 .1 .1 .1 .1 .0)) $ split ! $ move ! (1 ∷ []) $ peeks ! (Array u16 256) (Is (Array u16 256)) (shows 𝓤 H A (Array u16 256)) (zs .1 .1 .1 .1 .1 .1 .1 .1 .1 .1 .1 .0) ((arr-u16x256 (zs .1 .1 .1 .1 .1 .1 .1 .1 .1 .1 .1 .0)) ∷ []) (λ is11. drop ! $
-      move ! (11 ∷ 10 ∷ 9 ∷ 8 ∷ 7 ∷ 6 ∷ 5 ∷ 4 ∷ 3 ∷ 2 ∷ 1 ∷ 0 ∷ 12 ∷ []) $ group ! 13 $ use1 W (‵ (fat fullShare T′.mir b o (mach (vint w32 (zs .0)) (vint w8 (zs .1 .0)) (vint w32 (zs .1 .1 .0)) (vint w64 (zs .1 .1 .1 .0)) (vint w8 (zs .1 .1 .1 .1 .0)) (arr-u32x16 (zs .1 .1 .1 .1 .1 .0)) (arr-u8x16 (zs .1 .1 .1 .1 .1 .1 .0)) (vint w16 (zs .1 .1 .1 .1 .1 .1 .1 .0)) (arr-u64x256 (zs .1 .1 .1 .1 .1 .1 .1 .1 .0)) (arr-u64x256 (zs .1 .1 .1 .1 .1 .1 .1 .1 .1 .0)) (arr-u8x256 (zs .1 .1 .1 .1 .1 .1 .1 .1 .1 .1 .0)) (arr-u16x256 (zs .1 .1 .1 .1 .1 .1 .1 .1 .1 .1 .1 .0))))) (fields-back (vint w32 (zs .0)) (vint w8 (zs .1 .0)) (vint w32 (zs .1 .1 .0)) (vint w64 (zs .1 .1 .1 .0)) (vint w8 (zs .1 .1 .1 .1 .0)) (arr-u32x16 (zs .1 .1 .1 .1 .1 .0)) (arr-u8x16 (zs .1 .1 .1 .1 .1 .1 .0)) (vint w16 (zs .1 .1 .1 .1 .1 .1 .1 .0)) (arr-u64x256 (zs .1 .1 .1 .1 .1 .1 .1 .1 .0)) (arr-u64x256 (zs .1 .1 .1 .1 .1 .1 .1 .1 .1 .0)) (arr-u8x256 (zs .1 .1 .1 .1 .1 .1 .1 .1 .1 .1 .0)) (arr-u16x256 (zs .1 .1 .1 .1 .1 .1 .1 .1 .1 .1 .1 .0))) $ at-once ! $ check ! (is0, (is1, (is2, (is3, (is4, (is5, (is6, (is7, (is8, (is9, (is10, (is11, tt)))))))))))) $ done !))))))))))))
+      qed W (‵ (flft (ν ∷ []) fullShare) ∷ ‵ (lasts g.ended (ν ∷ [], (κ′, tt)) (lent0 (δ .0), (lent1 (δ .1 .0), (lent2 (δ .1 .1 .0), (lent3 (δ .1 .1 .1 .0), (lent4 (δ .1 .1 .1 .1 .0), (lent5 (δ .1 .1 .1 .1 .1 .0), (lent6 (δ .1 .1 .1 .1 .1 .1 .0), (bytes, (tag, tt))))))))) zs) ∷ ‵ (flent (ν ∷ []) (Body (mem (Array u64 6)) b (o + 0) (δ .0))) ∷ ‵ (flent (ν ∷ []) (Body (mem (Array u32 16)) b (o + 48) (δ .1 .0))) ∷ ‵ (flent (ν ∷ []) (Body (mem (Array u8 16)) b (o + 112) (δ .1 .1 .0))) ∷ ‵ (flent (ν ∷ []) (Body (mem (Array u64 256)) b (o + 128) (δ .1 .1 .1 .0))) ∷ ‵ (flent (ν ∷ []) (Body (mem (Array u64 256)) b (o + 2176) (δ .1 .1 .1 .1 .0))) ∷ ‵ (flent (ν ∷ []) (Body (mem (Array u8 256)) b (o + 4224) (δ .1 .1 .1 .1 .1 .0))) ∷ ‵ (flent (ν ∷ []) (Body (mem (Array u16 256)) b (o + 4480) (δ .1 .1 .1 .1 .1 .1 .0))) ∷ raw Kept ∷ []) ∵ updating ! $ move ! (1 ∷ []) $ fsplit ! $ move ! (1 ∷ []) $ fsplit ! $ move ! (1 ∷ []) $ fsplit ! $ move ! (1 ∷ []) $ fsplit ! $ move ! (1 ∷ []) $ fsplit ! $ move ! (1 ∷ []) $ fsplit ! $ move ! (1 ∷ []) $ fsplit ! $ move ! (1 ∷ []) $ drop ! $
+      move ! (7 ∷ []) $ lft-end ! tt $ use1 W (‵ (fdead (ν ∷ [])) ⊛ ‵ (fdead (ν ∷ []))) (W .lfts .dead-dup (ν ∷ [])) $ split ! $ use1 W (‵ (fdead (ν ∷ [])) ⊛ ‵ (fdead (ν ∷ []))) (W .lfts .dead-dup (ν ∷ [])) $ split ! $ use1 W (‵ (fdead (ν ∷ [])) ⊛ ‵ (fdead (ν ∷ []))) (W .lfts .dead-dup (ν ∷ [])) $ split ! $ use1 W (‵ (fdead (ν ∷ [])) ⊛ ‵ (fdead (ν ∷ []))) (W .lfts .dead-dup (ν ∷ [])) $ split ! $ use1 W (‵ (fdead (ν ∷ [])) ⊛ ‵ (fdead (ν ∷ []))) (W .lfts .dead-dup (ν ∷ [])) $ split ! $ use1 W (‵ (fdead (ν ∷ [])) ⊛ ‵ (fdead (ν ∷ []))) (W .lfts .dead-dup (ν ∷ [])) $ split ! $
+      move ! (0 ∷ 14 ∷ 13 ∷ []) $ use3 W (later (‵ (mem (Array u64 6) .lies (zs .0) b (o + 0)))) (ref-back 𝓤 H A W (Array u64 6) (ν ∷ []) (δ .0) (zs .0) b (o + 0)) $ await ! tt $ use1 W (‵ (fat fullShare (tyArray (tyInt w64) 6) b (o + 0) (arr-u64x6 (zs .0))) ⊛ ‵ ((Array u64 6) .own (zs .0) ((arr-u64x6 (zs .0)) ∷ []))) (out-u64x6 𝓤 H A W b (o + 0) (zs .0)) $ split ! $ move ! (1 ∷ []) $ peeks ! (Array u64 6) (Is (Array u64 6)) (shows 𝓤 H A (Array u64 6)) (zs .0) ((arr-u64x6 (zs .0)) ∷ []) (λ is0. drop ! $
+      move ! (1 ∷ 13 ∷ 12 ∷ []) $ use3 W (later (‵ (mem (Array u32 16) .lies (zs .1 .0) b (o + 48)))) (ref-back 𝓤 H A W (Array u32 16) (ν ∷ []) (δ .1 .0) (zs .1 .0) b (o + 48)) $ await ! tt $ use1 W (‵ (fat fullShare (tyArray (tyInt w32) 16) b (o + 48) (arr-u32x16 (zs .1 .0))) ⊛ ‵ ((Array u32 16) .own (zs .1 .0) ((arr-u32x16 (zs .1 .0)) ∷ []))) (out-u32x16 𝓤 H A W b (o + 48) (zs .1 .0)) $ split ! $ move ! (1 ∷ []) $ peeks ! (Array u32 16) (Is (Array u32 16)) (shows 𝓤 H A (Array u32 16)) (zs .1 .0) ((arr-u32x16 (zs .1 .0)) ∷ []) (λ is1. drop ! $
+      move ! (2 ∷ 12 ∷ 11 ∷ []) $ use3 W (later (‵ (mem (Array u8 16) .lies (zs .1 .1 .0) b (o + 112)))) (ref-back 𝓤 H A W (Array u8 16) (ν ∷ []) (δ .1 .1 .0) (zs .1 .1 .0) b (o + 112)) $ await ! tt $ use1 W (‵ (fat fullShare (tyArray (tyInt w8) 16) b (o + 112) (arr-u8x16 (zs .1 .1 .0))) ⊛ ‵ ((Array u8 16) .own (zs .1 .1 .0) ((arr-u8x16 (zs .1 .1 .0)) ∷ []))) (out-u8x16 𝓤 H A W b (o + 112) (zs .1 .1 .0)) $ split ! $ move ! (1 ∷ []) $ peeks ! (Array u8 16) (Is (Array u8 16)) (shows 𝓤 H A (Array u8 16)) (zs .1 .1 .0) ((arr-u8x16 (zs .1 .1 .0)) ∷ []) (λ is2. drop ! $
+      move ! (3 ∷ 11 ∷ 10 ∷ []) $ use3 W (later (‵ (mem (Array u64 256) .lies (zs .1 .1 .1 .0) b (o + 128)))) (ref-back 𝓤 H A W (Array u64 256) (ν ∷ []) (δ .1 .1 .1 .0) (zs .1 .1 .1 .0) b (o + 128)) $ await ! tt $ use1 W (‵ (fat fullShare (tyArray (tyInt w64) 256) b (o + 128) (arr-u64x256 (zs .1 .1 .1 .0))) ⊛ ‵ ((Array u64 256) .own (zs .1 .1 .1 .0) ((arr-u64x256 (zs .1 .1 .1 .0)) ∷ []))) (out-u64x256 𝓤 H A W b (o + 128) (zs .1 .1 .1 .0)) $ split ! $ move ! (1 ∷ []) $ peeks ! (Array u64 256) (Is (Array u64 256)) (shows 𝓤 H A (Array u64 256)) (zs .1 .1 .1 .0) ((arr-u64x256 (zs .1 .1 .1 .0)) ∷ []) (λ is3. drop ! $
+      move ! (4 ∷ 10 ∷ 9 ∷ []) $ use3 W (later (‵ (mem (Array u64 256) .lies (zs .1 .1 .1 .1 .0) b (o + 2176)))) (ref-back 𝓤 H A W (Array u64 256) (ν ∷ []) (δ .1 .1 .1 .1 .0) (zs .1 .1 .1 .1 .0) b (o + 2176)) $ await ! tt $ use1 W (‵ (fat fullShare (tyArray (tyInt w64) 256) b (o + 2176) (arr-u64x256 (zs .1 .1 .1 .1 .0))) ⊛ ‵ ((Array u64 256) .own (zs .1 .1 .1 .1 .0) ((arr-u64x256 (zs .1 .1 .1 .1 .0)) ∷ []))) (out-u64x256 𝓤 H A W b (o + 2176) (zs .1 .1 .1 .1 .0)) $ split ! $ move ! (1 ∷ []) $ peeks ! (Array u64 256) (Is (Array u64 256)) (shows 𝓤 H A (Array u64 256)) (zs .1 .1 .1 .1 .0) ((arr-u64x256 (zs .1 .1 .1 .1 .0)) ∷ []) (λ is4. drop ! $
+      move ! (5 ∷ 9 ∷ 8 ∷ []) $ use3 W (later (‵ (mem (Array u8 256) .lies (zs .1 .1 .1 .1 .1 .0) b (o + 4224)))) (ref-back 𝓤 H A W (Array u8 256) (ν ∷ []) (δ .1 .1 .1 .1 .1 .0) (zs .1 .1 .1 .1 .1 .0) b (o + 4224)) $ await ! tt $ use1 W (‵ (fat fullShare (tyArray (tyInt w8) 256) b (o + 4224) (arr-u8x256 (zs .1 .1 .1 .1 .1 .0))) ⊛ ‵ ((Array u8 256) .own (zs .1 .1 .1 .1 .1 .0) ((arr-u8x256 (zs .1 .1 .1 .1 .1 .0)) ∷ []))) (out-u8x256 𝓤 H A W b (o + 4224) (zs .1 .1 .1 .1 .1 .0)) $ split ! $ move ! (1 ∷ []) $ peeks ! (Array u8 256) (Is (Array u8 256)) (shows 𝓤 H A (Array u8 256)) (zs .1 .1 .1 .1 .1 .0) ((arr-u8x256 (zs .1 .1 .1 .1 .1 .0)) ∷ []) (λ is5. drop ! $
+      move ! (6 ∷ 8 ∷ 7 ∷ []) $ use3 W (later (‵ (mem (Array u16 256) .lies (zs .1 .1 .1 .1 .1 .1 .0) b (o + 4480)))) (ref-back 𝓤 H A W (Array u16 256) (ν ∷ []) (δ .1 .1 .1 .1 .1 .1 .0) (zs .1 .1 .1 .1 .1 .1 .0) b (o + 4480)) $ await ! tt $ use1 W (‵ (fat fullShare (tyArray (tyInt w16) 256) b (o + 4480) (arr-u16x256 (zs .1 .1 .1 .1 .1 .1 .0))) ⊛ ‵ ((Array u16 256) .own (zs .1 .1 .1 .1 .1 .1 .0) ((arr-u16x256 (zs .1 .1 .1 .1 .1 .1 .0)) ∷ []))) (out-u16x256 𝓤 H A W b (o + 4480) (zs .1 .1 .1 .1 .1 .1 .0)) $ split ! $ move ! (1 ∷ []) $ peeks ! (Array u16 256) (Is (Array u16 256)) (shows 𝓤 H A (Array u16 256)) (zs .1 .1 .1 .1 .1 .1 .0) ((arr-u16x256 (zs .1 .1 .1 .1 .1 .1 .0)) ∷ []) (λ is6. drop ! $
+      move ! (6 ∷ 5 ∷ 4 ∷ 3 ∷ 2 ∷ 1 ∷ 0 ∷ 7 ∷ []) $ group ! 8 $ use1 W (‵ (fat fullShare T′.mir b o (mach (arr-u64x6 (zs .0)) (arr-u32x16 (zs .1 .0)) (arr-u8x16 (zs .1 .1 .0)) (arr-u64x256 (zs .1 .1 .1 .0)) (arr-u64x256 (zs .1 .1 .1 .1 .0)) (arr-u8x256 (zs .1 .1 .1 .1 .1 .0)) (arr-u16x256 (zs .1 .1 .1 .1 .1 .1 .0))))) (fields-back (arr-u64x6 (zs .0)) (arr-u32x16 (zs .1 .0)) (arr-u8x16 (zs .1 .1 .0)) (arr-u64x256 (zs .1 .1 .1 .0)) (arr-u64x256 (zs .1 .1 .1 .1 .0)) (arr-u8x256 (zs .1 .1 .1 .1 .1 .0)) (arr-u16x256 (zs .1 .1 .1 .1 .1 .1 .0))) $ at-once ! $ check ! (is0, (is1, (is2, (is3, (is4, (is5, (is6, tt))))))) $ done !)))))))
 
-  module _ (C : Calls 𝓤 H) (Λ : Loops 𝓤 H) (fm : FmC 𝓤 H (W .laws) C) (known : Triple 𝓤 (C #session·step-fields) (GC 𝓤 H A at-mem run)) where
+  module _ (C : Calls 𝓤 H) (Λ : Loops 𝓤 H) (fm : FmC 𝓤 H (W .laws) C) (known : Triple 𝓤 (C #session·step-lent) (GC 𝓤 H A at-mem run)) where
     walk : Is (ShrSlice (named 1) κ′ u8) bytes (sliceVal (bytes .ptr) (length (bytes .now)) ∷ []) → ent 𝓤 (onEntry 𝓤 H A f.signature (κ, (κ′, tt)) (q, (q′, tt)) x at-args) (WpFn 𝓤 H C Λ code.function (vptr b o ∷ sliceVal (bytes .ptr) (length (bytes .now)) ∷ vint w64 tag ∷ []) Post)
     walk is-sl =
         qed W ((‵ (flft κ q) ⊛ (‵ (flft κ′ q′) ⊛ ‵ ftrue)) ∷ ‵ (owns (MutRef (named 0) κ T.the-row ∷ ShrSlice (named 1) κ′ u8 ∷ u64 ∷ []) x at-args) ∷ []) ∵ enter ! C Λ code.function (vptr b o ∷ sliceVal (bytes .ptr) (length (bytes .now)) ∷ vint w64 tag ∷ []) _ $
-        alloc1 ! (λ l0. alloc1 ! (λ l1. alloc1 ! (λ l2. alloc1 ! (λ l3. alloc1 ! (λ l4. alloc1 ! (λ l5. alloc1 ! (λ l6. alloc1 ! (λ l7. alloc1 ! (λ l8. alloc1 ! (λ l9. alloc1 ! (λ l10. alloc1 ! (λ l11. alloc1 ! (λ l12. alloc1 ! (λ l13. alloc1 ! (λ l14. alloc1 ! (λ l15. alloc0 ! $ params1 ! $ pass1 ! (init ! 28 refl (tt, tt)) $ pass1 ! (init ! 26 refl (shr-slice-lawful 𝓤 H A W (named 1) κ′ u8 .typed bytes (sliceVal (bytes .ptr) (length (bytes .now)) ∷ []) is-sl .0)) $ pass1 ! (init ! 24 refl (tt, record { fits = tag-fits })) $ pass0 ! $
+        alloc1 ! (λ l0. alloc1 ! (λ l1. alloc1 ! (λ l2. alloc1 ! (λ l3. alloc1 ! (λ l4. alloc1 ! (λ l5. alloc1 ! (λ l6. alloc1 ! (λ l7. alloc1 ! (λ l8. alloc1 ! (λ l9. alloc1 ! (λ l10. alloc0 ! $ params1 ! $ pass1 ! (init ! 18 refl (tt, tt)) $ pass1 ! (init ! 16 refl (shr-slice-lawful 𝓤 H A W (named 1) κ′ u8 .typed bytes (sliceVal (bytes .ptr) (length (bytes .now)) ∷ []) is-sl .0)) $ pass1 ! (init ! 14 refl (tt, record { fits = tag-fits })) $ pass0 ! $
         -- the borrow is opened
-        move ! (33 ∷ []) $ fsplit ! $ fsplit3 ! $ drop ! $ move ! (35 ∷ []) $ split ! $ move ! (2 ∷ 3 ∷ 0 ∷ []) $
+        move ! (23 ∷ []) $ fsplit ! $ fsplit3 ! $ drop ! $ move ! (25 ∷ []) $ split ! $ move ! (2 ∷ 3 ∷ 0 ∷ []) $
         opens ! tt T.the-row {h = h} b o (λ vs. spelt ! T.the-row (Is T.the-row) (shows 𝓤 H A T.the-row) (λ d. T′.lowered d ∷ []) (T′.lowers .val-is) fullShare h vs b o $
-        use1 W (‵ (fat fullShare T′.mir b o (mach (vint w32 (h .version)) (vint w8 (h .phase)) (vint w32 (h .«current_xid»)) (vint w64 (h .«final_lsn»)) (vint w8 (h .changed)) (arr-u32x16 (h .«stream_xids»)) (arr-u8x16 (h .«stream_changed»)) (vint w16 (h .rows)) (arr-u64x256 (h .keys)) (arr-u64x256 (h .tags)) (arr-u8x256 (h .identities)) (arr-u16x256 (h .columns))))) (W .laws .raw-at fullShare T′.mir b o (mach (vint w32 (h .version)) (vint w8 (h .phase)) (vint w32 (h .«current_xid»)) (vint w64 (h .«final_lsn»)) (vint w8 (h .changed)) (arr-u32x16 (h .«stream_xids»)) (arr-u8x16 (h .«stream_changed»)) (vint w16 (h .rows)) (arr-u64x256 (h .keys)) (arr-u64x256 (h .tags)) (arr-u8x256 (h .identities)) (arr-u16x256 (h .columns)))) $
+        use1 W (‵ (fat fullShare T′.mir b o (mach (arr-u64x6 (h .head)) (arr-u32x16 (h .«stream_xids»)) (arr-u8x16 (h .«stream_changed»)) (arr-u64x256 (h .keys)) (arr-u64x256 (h .tags)) (arr-u8x256 (h .identities)) (arr-u16x256 (h .columns))))) (W .laws .raw-at fullShare T′.mir b o (mach (arr-u64x6 (h .head)) (arr-u32x16 (h .«stream_xids»)) (arr-u8x16 (h .«stream_changed»)) (arr-u64x256 (h .keys)) (arr-u64x256 (h .tags)) (arr-u8x256 (h .identities)) (arr-u16x256 (h .columns)))) $
         move ! (1 ∷ []) $ peeks ! T.the-row (Is T.the-row) (shows 𝓤 H A T.the-row) h (T′.lowered h ∷ []) (λ was. drop ! $
         -- [the struct's cell; the open borrow; obs; auth; true; the numbers; the locals, the last first]
-        assigns ! (addr ! (from ! (hop ! (look ! 34 refl) (fld ! refl (stop !))))) (from ! (stop !)) (init ! 28 refl (tt, tt)) $
-        assigns ! (addr ! (from ! (hop ! (look ! 34 refl) (fld ! refl (stop !))))) (from ! (stop !)) (init ! 26 refl (tt, tt)) $
-        assigns ! (addr ! (from ! (hop ! (look ! 34 refl) (fld ! refl (stop !))))) (from ! (stop !)) (init ! 24 refl (tt, tt)) $
-        assigns ! (addr ! (from ! (hop ! (look ! 34 refl) (fld ! refl (stop !))))) (from ! (stop !)) (init ! 22 refl (tt, tt)) $
-        assigns ! (addr ! (from ! (hop ! (look ! 34 refl) (fld ! refl (stop !))))) (from ! (stop !)) (init ! 20 refl (tt, tt)) $
-        assigns ! (addr ! (from ! (hop ! (look ! 34 refl) (fld ! refl (stop !))))) (from ! (stop !)) (init ! 18 refl (tt, tt)) $
-        assigns ! (addr ! (from ! (hop ! (look ! 34 refl) (fld ! refl (stop !))))) (from ! (stop !)) (init ! 16 refl (tt, tt)) $
-        assigns ! (addr ! (from ! (hop ! (look ! 34 refl) (fld ! refl (stop !))))) (from ! (stop !)) (init ! 14 refl (tt, tt)) $
-        assigns ! (addr ! (from ! (hop ! (look ! 34 refl) (fld ! refl (stop !))))) (from ! (stop !)) (init ! 12 refl (tt, tt)) $
-        assigns ! (addr ! (from ! (hop ! (look ! 34 refl) (fld ! refl (stop !))))) (from ! (stop !)) (init ! 10 refl (tt, tt)) $
-        assigns ! (addr ! (from ! (hop ! (look ! 34 refl) (fld ! refl (stop !))))) (from ! (stop !)) (init ! 8 refl (tt, tt)) $
-        assigns ! (addr ! (from ! (hop ! (look ! 34 refl) (fld ! refl (stop !))))) (from ! (stop !)) (init ! 6 refl (tt, tt)) $
+        assigns ! (addr ! (from ! (hop ! (look ! 24 refl) (fld ! refl (stop !))))) (from ! (stop !)) (init ! 18 refl (tt, tt)) $
+        assigns ! (addr ! (from ! (hop ! (look ! 24 refl) (fld ! refl (stop !))))) (from ! (stop !)) (init ! 16 refl (tt, tt)) $
+        assigns ! (addr ! (from ! (hop ! (look ! 24 refl) (fld ! refl (stop !))))) (from ! (stop !)) (init ! 14 refl (tt, tt)) $
+        assigns ! (addr ! (from ! (hop ! (look ! 24 refl) (fld ! refl (stop !))))) (from ! (stop !)) (init ! 12 refl (tt, tt)) $
+        assigns ! (addr ! (from ! (hop ! (look ! 24 refl) (fld ! refl (stop !))))) (from ! (stop !)) (init ! 10 refl (tt, tt)) $
+        assigns ! (addr ! (from ! (hop ! (look ! 24 refl) (fld ! refl (stop !))))) (from ! (stop !)) (init ! 8 refl (tt, tt)) $
+        assigns ! (addr ! (from ! (hop ! (look ! 24 refl) (fld ! refl (stop !))))) (from ! (stop !)) (init ! 6 refl (tt, tt)) $
         -- the fields are lent
-        move ! (5 ∷ []) $ fsplit ! $ use1 W (‵ (ShrSlice (named 1) κ′ u8 .own bytes (sliceVal (bytes .ptr) (length (bytes .now)) ∷ [])) ⊛ ‵ (ShrSlice (named 1) κ′ u8 .own bytes (sliceVal (bytes .ptr) (length (bytes .now)) ∷ []))) (shr-slice-copy 𝓤 H A W (named 1) κ′ u8 .twice bytes (sliceVal (bytes .ptr) (length (bytes .now)) ∷ [])) $ split ! $ move ! (3 ∷ 7 ∷ 0 ∷ []) $ use3 W (later (some (λ (y : ℕ × Names). raw (GC 𝓤 H A at-mem run .pre (to (y .0) (y .1 .0) (y .1 .1 .0) (y .1 .1 .1 .0) (y .1 .1 .1 .1 .0) (y .1 .1 .1 .1 .1 .0) (y .1 .1 .1 .1 .1 .1 .0) (y .1 .1 .1 .1 .1 .1 .1 .0) (y .1 .1 .1 .1 .1 .1 .1 .1 .0) (y .1 .1 .1 .1 .1 .1 .1 .1 .1 .0) (y .1 .1 .1 .1 .1 .1 .1 .1 .1 .1 .0) (y .1 .1 .1 .1 .1 .1 .1 .1 .1 .1 .1 .0) (y .1 .1 .1 .1 .1 .1 .1 .1 .1 .1 .1 .1 .0))) ⊛ raw (Lents (y .0) (y .1))))) (lend-all _ was) $ await ! tt $ pick ! (λ y. split ! $ move ! (0 ∷ 1 ∷ 4 ∷ 5 ∷ 6 ∷ 2 ∷ 3 ∷ []) $
+        move ! (5 ∷ []) $ fsplit ! $ use1 W (‵ (ShrSlice (named 1) κ′ u8 .own bytes (sliceVal (bytes .ptr) (length (bytes .now)) ∷ [])) ⊛ ‵ (ShrSlice (named 1) κ′ u8 .own bytes (sliceVal (bytes .ptr) (length (bytes .now)) ∷ []))) (shr-slice-copy 𝓤 H A W (named 1) κ′ u8 .twice bytes (sliceVal (bytes .ptr) (length (bytes .now)) ∷ [])) $ split ! $ move ! (3 ∷ 7 ∷ 0 ∷ []) $ use3 W (later (some (λ (y : ℕ × Names). raw (GC 𝓤 H A at-mem run .pre (to (y .0) (y .1 .0) (y .1 .1 .0) (y .1 .1 .1 .0) (y .1 .1 .1 .1 .0) (y .1 .1 .1 .1 .1 .0) (y .1 .1 .1 .1 .1 .1 .0) (y .1 .1 .1 .1 .1 .1 .1 .0))) ⊛ raw (Lents (y .0) (y .1))))) (lend-all _ was) $ await ! tt $ pick ! (λ y. split ! $ move ! (0 ∷ 1 ∷ 4 ∷ 5 ∷ 6 ∷ 2 ∷ 3 ∷ []) $
         -- [the callee's `pre`; the lender's parts and what is kept; the open borrow; obs; auth; true; the numbers; the locals]
-        calls-at ! fm (GC 𝓤 H A at-mem run) known (to (y .0) (y .1 .0) (y .1 .1 .0) (y .1 .1 .1 .0) (y .1 .1 .1 .1 .0) (y .1 .1 .1 .1 .1 .0) (y .1 .1 .1 .1 .1 .1 .0) (y .1 .1 .1 .1 .1 .1 .1 .0) (y .1 .1 .1 .1 .1 .1 .1 .1 .0) (y .1 .1 .1 .1 .1 .1 .1 .1 .1 .0) (y .1 .1 .1 .1 .1 .1 .1 .1 .1 .1 .0) (y .1 .1 .1 .1 .1 .1 .1 .1 .1 .1 .1 .0) (y .1 .1 .1 .1 .1 .1 .1 .1 .1 .1 .1 .1 .0)) (and-then ! (load ! (from ! (stop !)) (look ! 29 refl)) (and-then ! (load ! (from ! (stop !)) (look ! 27 refl)) (and-then ! (load ! (from ! (stop !)) (look ! 25 refl)) (and-then ! (load ! (from ! (stop !)) (look ! 23 refl)) (and-then ! (load ! (from ! (stop !)) (look ! 21 refl)) (and-then ! (load ! (from ! (stop !)) (look ! 19 refl)) (and-then ! (load ! (from ! (stop !)) (look ! 17 refl)) (and-then ! (load ! (from ! (stop !)) (look ! 15 refl)) (and-then ! (load ! (from ! (stop !)) (look ! 13 refl)) (and-then ! (load ! (from ! (stop !)) (look ! 11 refl)) (and-then ! (load ! (from ! (stop !)) (look ! 9 refl)) (and-then ! (load ! (from ! (stop !)) (look ! 7 refl)) (and-then ! (load ! (from ! (stop !)) (look ! 33 refl)) (and-then ! (load ! (from ! (stop !)) (look ! 31 refl)) (no-more !))))))))))))))) (λ w.
-        use1 W (later (some (λ (r : Answer). ((‵ (flft (y .0 ∷ []) fullShare) ⊛ (‵ (flft κ′ q′) ⊛ ‵ ftrue)) ⊛ ‵ (R.the-row .own r (w ∷ []))) ⊛ raw (ensured 𝓤 H A g.ended (g.clauses 𝓤 H A at-mem run) (y .0 ∷ [], (κ′, tt)) (lent0 (y .1 .0), (lent1 (y .1 .1 .0), (lent2 (y .1 .1 .1 .0), (lent3 (y .1 .1 .1 .1 .0), (lent4 (y .1 .1 .1 .1 .1 .0), (lent5 (y .1 .1 .1 .1 .1 .1 .0), (lent6 (y .1 .1 .1 .1 .1 .1 .1 .0), (lent7 (y .1 .1 .1 .1 .1 .1 .1 .1 .0), (lent8 (y .1 .1 .1 .1 .1 .1 .1 .1 .1 .0), (lent9 (y .1 .1 .1 .1 .1 .1 .1 .1 .1 .1 .0), (lent10 (y .1 .1 .1 .1 .1 .1 .1 .1 .1 .1 .1 .0), (lent11 (y .1 .1 .1 .1 .1 .1 .1 .1 .1 .1 .1 .1 .0), (bytes, (tag, tt)))))))))))))) tt r)))) (id⊢ 𝓤 _) $ await ! tt $ pick ! (λ r. split ! $
+        calls-at ! fm (GC 𝓤 H A at-mem run) known (to (y .0) (y .1 .0) (y .1 .1 .0) (y .1 .1 .1 .0) (y .1 .1 .1 .1 .0) (y .1 .1 .1 .1 .1 .0) (y .1 .1 .1 .1 .1 .1 .0) (y .1 .1 .1 .1 .1 .1 .1 .0)) (and-then ! (load ! (from ! (stop !)) (look ! 19 refl)) (and-then ! (load ! (from ! (stop !)) (look ! 17 refl)) (and-then ! (load ! (from ! (stop !)) (look ! 15 refl)) (and-then ! (load ! (from ! (stop !)) (look ! 13 refl)) (and-then ! (load ! (from ! (stop !)) (look ! 11 refl)) (and-then ! (load ! (from ! (stop !)) (look ! 9 refl)) (and-then ! (load ! (from ! (stop !)) (look ! 7 refl)) (and-then ! (load ! (from ! (stop !)) (look ! 23 refl)) (and-then ! (load ! (from ! (stop !)) (look ! 21 refl)) (no-more !)))))))))) (λ w.
+        use1 W (later (some (λ (r : Answer). ((‵ (flft (y .0 ∷ []) fullShare) ⊛ (‵ (flft κ′ q′) ⊛ ‵ ftrue)) ⊛ ‵ (R.the-row .own r (w ∷ []))) ⊛ raw (ensured 𝓤 H A g.ended (g.clauses 𝓤 H A at-mem run) (y .0 ∷ [], (κ′, tt)) (lent0 (y .1 .0), (lent1 (y .1 .1 .0), (lent2 (y .1 .1 .1 .0), (lent3 (y .1 .1 .1 .1 .0), (lent4 (y .1 .1 .1 .1 .1 .0), (lent5 (y .1 .1 .1 .1 .1 .1 .0), (lent6 (y .1 .1 .1 .1 .1 .1 .1 .0), (bytes, (tag, tt))))))))) tt r)))) (id⊢ 𝓤 _) $ await ! tt $ pick ! (λ r. split ! $
         -- what the callee ensures, at some last values
-        move ! (1 ∷ []) $ use1 W (some (λ (zs : ℕ × (ℕ × (ℕ × (ℕ × (ℕ × (List ℕ × (List ℕ × (ℕ × (List ℕ × (List ℕ × (List ℕ × (List ℕ × (Unit {0} × (Unit {0} × (Unit {0}))))))))))))))). ‵ (lasts g.ended (y .0 ∷ [], (κ′, tt)) (lent0 (y .1 .0), (lent1 (y .1 .1 .0), (lent2 (y .1 .1 .1 .0), (lent3 (y .1 .1 .1 .1 .0), (lent4 (y .1 .1 .1 .1 .1 .0), (lent5 (y .1 .1 .1 .1 .1 .1 .0), (lent6 (y .1 .1 .1 .1 .1 .1 .1 .0), (lent7 (y .1 .1 .1 .1 .1 .1 .1 .1 .0), (lent8 (y .1 .1 .1 .1 .1 .1 .1 .1 .1 .0), (lent9 (y .1 .1 .1 .1 .1 .1 .1 .1 .1 .1 .0), (lent10 (y .1 .1 .1 .1 .1 .1 .1 .1 .1 .1 .1 .0), (lent11 (y .1 .1 .1 .1 .1 .1 .1 .1 .1 .1 .1 .1 .0), (bytes, (tag, tt)))))))))))))) zs) ⊛ raw (fact 𝓤 (stepped (made (zs .0) (zs .1 .0) (zs .1 .1 .0) (zs .1 .1 .1 .0) (zs .1 .1 .1 .1 .0) (zs .1 .1 .1 .1 .1 .0) (zs .1 .1 .1 .1 .1 .1 .0) (zs .1 .1 .1 .1 .1 .1 .1 .0) (zs .1 .1 .1 .1 .1 .1 .1 .1 .0) (zs .1 .1 .1 .1 .1 .1 .1 .1 .1 .0) (zs .1 .1 .1 .1 .1 .1 .1 .1 .1 .1 .0) (zs .1 .1 .1 .1 .1 .1 .1 .1 .1 .1 .1 .0)) r ≡ stepOf h (bytes .now) tag)))) (id⊢ 𝓤 _) $ pick ! (λ zs. split ! $ move ! (1 ∷ []) $ heard ! (stepped (made (zs .0) (zs .1 .0) (zs .1 .1 .0) (zs .1 .1 .1 .0) (zs .1 .1 .1 .1 .0) (zs .1 .1 .1 .1 .1 .0) (zs .1 .1 .1 .1 .1 .1 .0) (zs .1 .1 .1 .1 .1 .1 .1 .0) (zs .1 .1 .1 .1 .1 .1 .1 .1 .0) (zs .1 .1 .1 .1 .1 .1 .1 .1 .1 .0) (zs .1 .1 .1 .1 .1 .1 .1 .1 .1 .1 .0) (zs .1 .1 .1 .1 .1 .1 .1 .1 .1 .1 .1 .0)) r ≡ stepOf h (bytes .now) tag) (λ e. move ! (1 ∷ []) $ split ! $ move ! (1 ∷ []) $
+        move ! (1 ∷ []) $ use1 W (some (λ (zs : List ℕ × (List ℕ × (List ℕ × (List ℕ × (List ℕ × (List ℕ × (List ℕ × (Unit {0} × (Unit {0} × (Unit {0})))))))))). ‵ (lasts g.ended (y .0 ∷ [], (κ′, tt)) (lent0 (y .1 .0), (lent1 (y .1 .1 .0), (lent2 (y .1 .1 .1 .0), (lent3 (y .1 .1 .1 .1 .0), (lent4 (y .1 .1 .1 .1 .1 .0), (lent5 (y .1 .1 .1 .1 .1 .1 .0), (lent6 (y .1 .1 .1 .1 .1 .1 .1 .0), (bytes, (tag, tt))))))))) zs) ⊛ raw (fact 𝓤 (stepped (sessionOf (zs .0) (zs .1 .0) (zs .1 .1 .0) (zs .1 .1 .1 .0) (zs .1 .1 .1 .1 .0) (zs .1 .1 .1 .1 .1 .0) (zs .1 .1 .1 .1 .1 .1 .0)) r ≡ stepOf h (bytes .now) tag)))) (id⊢ 𝓤 _) $ pick ! (λ zs. split ! $ move ! (1 ∷ []) $ heard ! (stepped (sessionOf (zs .0) (zs .1 .0) (zs .1 .1 .0) (zs .1 .1 .1 .0) (zs .1 .1 .1 .1 .0) (zs .1 .1 .1 .1 .1 .0) (zs .1 .1 .1 .1 .1 .1 .0)) r ≡ stepOf h (bytes .now) tag) (λ e. move ! (1 ∷ []) $ split ! $ move ! (1 ∷ []) $
         -- [the result; the token; what says the last values; the lender's parts and what is kept; the open borrow; obs; auth; true; the numbers; the locals]
-        peeks ! R.the-row (Is R.the-row) (shows 𝓤 H A R.the-row) r (w ∷ []) (λ is. land ! (from ! (stop !)) (init ! 39 refl (EL.lawful R.the-type R′.the-laws 𝓤 H A W tt .typed r _ is .0)) $ rewrite ! 39 (λ (w : Val). ‵ (fat fullShare R′.mir l0 0 w)) (ap only (EL.tells R.the-type R′.the-laws r _ is)) refl $
-        move ! (1 ∷ []) $ split ! $ move ! (0 ∷ 3 ∷ 4 ∷ []) $ use3 W (later (given (Iss zs) (‵ (fat fullShare T′.mir b o (mach (vint w32 (zs .0)) (vint w8 (zs .1 .0)) (vint w32 (zs .1 .1 .0)) (vint w64 (zs .1 .1 .1 .0)) (vint w8 (zs .1 .1 .1 .1 .0)) (arr-u32x16 (zs .1 .1 .1 .1 .1 .0)) (arr-u8x16 (zs .1 .1 .1 .1 .1 .1 .0)) (vint w16 (zs .1 .1 .1 .1 .1 .1 .1 .0)) (arr-u64x256 (zs .1 .1 .1 .1 .1 .1 .1 .1 .0)) (arr-u64x256 (zs .1 .1 .1 .1 .1 .1 .1 .1 .1 .0)) (arr-u8x256 (zs .1 .1 .1 .1 .1 .1 .1 .1 .1 .1 .0)) (arr-u16x256 (zs .1 .1 .1 .1 .1 .1 .1 .1 .1 .1 .1 .0))))))) (back-all (y .0) (y .1) zs) $ await ! tt $ learn ! (λ iss.
+        peeks ! R.the-row (Is R.the-row) (shows 𝓤 H A R.the-row) r (w ∷ []) (λ is. land ! (from ! (stop !)) (init ! 29 refl (EL.lawful R.the-type R′.the-laws 𝓤 H A W tt .typed r _ is .0)) $ rewrite ! 29 (λ (w : Val). ‵ (fat fullShare R′.mir l0 0 w)) (ap only (EL.tells R.the-type R′.the-laws r _ is)) refl $
+        move ! (1 ∷ []) $ split ! $ move ! (0 ∷ 3 ∷ 4 ∷ []) $ use3 W (later (given (Iss zs) (‵ (fat fullShare T′.mir b o (mach (arr-u64x6 (zs .0)) (arr-u32x16 (zs .1 .0)) (arr-u8x16 (zs .1 .1 .0)) (arr-u64x256 (zs .1 .1 .1 .0)) (arr-u64x256 (zs .1 .1 .1 .1 .0)) (arr-u8x256 (zs .1 .1 .1 .1 .1 .0)) (arr-u16x256 (zs .1 .1 .1 .1 .1 .1 .0))))))) (back-all (y .0) (y .1) zs) $ await ! tt $ learn ! (λ iss.
         -- [the struct's cell; true; the result; the open borrow; obs; auth; true; the numbers; the locals]
         -- the borrow is closed
-        use1 W (‵ (cellAt fullShare (T.the-row .mir) (mach (vint w32 (zs .0)) (vint w8 (zs .1 .0)) (vint w32 (zs .1 .1 .0)) (vint w64 (zs .1 .1 .1 .0)) (vint w8 (zs .1 .1 .1 .1 .0)) (arr-u32x16 (zs .1 .1 .1 .1 .1 .0)) (arr-u8x16 (zs .1 .1 .1 .1 .1 .1 .0)) (vint w16 (zs .1 .1 .1 .1 .1 .1 .1 .0)) (arr-u64x256 (zs .1 .1 .1 .1 .1 .1 .1 .1 .0)) (arr-u64x256 (zs .1 .1 .1 .1 .1 .1 .1 .1 .1 .0)) (arr-u8x256 (zs .1 .1 .1 .1 .1 .1 .1 .1 .1 .1 .0)) (arr-u16x256 (zs .1 .1 .1 .1 .1 .1 .1 .1 .1 .1 .1 .0)) ∷ []) b o)) (W .laws .at-raw fullShare T′.mir b o (mach (vint w32 (zs .0)) (vint w8 (zs .1 .0)) (vint w32 (zs .1 .1 .0)) (vint w64 (zs .1 .1 .1 .0)) (vint w8 (zs .1 .1 .1 .1 .0)) (arr-u32x16 (zs .1 .1 .1 .1 .1 .0)) (arr-u8x16 (zs .1 .1 .1 .1 .1 .1 .0)) (vint w16 (zs .1 .1 .1 .1 .1 .1 .1 .0)) (arr-u64x256 (zs .1 .1 .1 .1 .1 .1 .1 .1 .0)) (arr-u64x256 (zs .1 .1 .1 .1 .1 .1 .1 .1 .1 .0)) (arr-u8x256 (zs .1 .1 .1 .1 .1 .1 .1 .1 .1 .1 .0)) (arr-u16x256 (zs .1 .1 .1 .1 .1 .1 .1 .1 .1 .1 .1 .0)))) $
-        owned ! T.the-row (Is T.the-row) (LL.makes T.the-type T′.the-plain 𝓤 H A) (with h (zs .0) (zs .1 .0) (zs .1 .1 .0) (zs .1 .1 .1 .0) (zs .1 .1 .1 .1 .0) (zs .1 .1 .1 .1 .1 .0) (zs .1 .1 .1 .1 .1 .1 .0) (zs .1 .1 .1 .1 .1 .1 .1 .0) (zs .1 .1 .1 .1 .1 .1 .1 .1 .0) (zs .1 .1 .1 .1 .1 .1 .1 .1 .1 .0) (zs .1 .1 .1 .1 .1 .1 .1 .1 .1 .1 .0) (zs .1 .1 .1 .1 .1 .1 .1 .1 .1 .1 .1 .0)) _ (is-made h _ was (zs .0) (zs .1 .0) (zs .1 .1 .0) (zs .1 .1 .1 .0) (zs .1 .1 .1 .1 .0) (zs .1 .1 .1 .1 .1 .0) (zs .1 .1 .1 .1 .1 .1 .0) (zs .1 .1 .1 .1 .1 .1 .1 .0) (zs .1 .1 .1 .1 .1 .1 .1 .1 .0) (zs .1 .1 .1 .1 .1 .1 .1 .1 .1 .0) (zs .1 .1 .1 .1 .1 .1 .1 .1 .1 .1 .0) (zs .1 .1 .1 .1 .1 .1 .1 .1 .1 .1 .1 .0) (iss .0) (iss .1 .0) (iss .1 .1 .0) (iss .1 .1 .1 .0) (iss .1 .1 .1 .1 .0) (iss .1 .1 .1 .1 .1 .0) (iss .1 .1 .1 .1 .1 .1 .0) (iss .1 .1 .1 .1 .1 .1 .1 .0) (iss .1 .1 .1 .1 .1 .1 .1 .1 .0) (iss .1 .1 .1 .1 .1 .1 .1 .1 .1 .0) (iss .1 .1 .1 .1 .1 .1 .1 .1 .1 .1 .0) (iss .1 .1 .1 .1 .1 .1 .1 .1 .1 .1 .1 .0)) $ move ! (1 ∷ 0 ∷ 4 ∷ 5 ∷ 6 ∷ []) $ closes ! tt T.the-row (with h (zs .0) (zs .1 .0) (zs .1 .1 .0) (zs .1 .1 .1 .0) (zs .1 .1 .1 .1 .0) (zs .1 .1 .1 .1 .1 .0) (zs .1 .1 .1 .1 .1 .1 .0) (zs .1 .1 .1 .1 .1 .1 .1 .0) (zs .1 .1 .1 .1 .1 .1 .1 .1 .0) (zs .1 .1 .1 .1 .1 .1 .1 .1 .1 .0) (zs .1 .1 .1 .1 .1 .1 .1 .1 .1 .1 .0) (zs .1 .1 .1 .1 .1 .1 .1 .1 .1 .1 .1 .0)) (T′.lowered (with h (zs .0) (zs .1 .0) (zs .1 .1 .0) (zs .1 .1 .1 .0) (zs .1 .1 .1 .1 .0) (zs .1 .1 .1 .1 .1 .0) (zs .1 .1 .1 .1 .1 .1 .0) (zs .1 .1 .1 .1 .1 .1 .1 .0) (zs .1 .1 .1 .1 .1 .1 .1 .1 .0) (zs .1 .1 .1 .1 .1 .1 .1 .1 .1 .0) (zs .1 .1 .1 .1 .1 .1 .1 .1 .1 .1 .0) (zs .1 .1 .1 .1 .1 .1 .1 .1 .1 .1 .1 .0)) ∷ []) b o $
+        use1 W (‵ (cellAt fullShare (T.the-row .mir) (mach (arr-u64x6 (zs .0)) (arr-u32x16 (zs .1 .0)) (arr-u8x16 (zs .1 .1 .0)) (arr-u64x256 (zs .1 .1 .1 .0)) (arr-u64x256 (zs .1 .1 .1 .1 .0)) (arr-u8x256 (zs .1 .1 .1 .1 .1 .0)) (arr-u16x256 (zs .1 .1 .1 .1 .1 .1 .0)) ∷ []) b o)) (W .laws .at-raw fullShare T′.mir b o (mach (arr-u64x6 (zs .0)) (arr-u32x16 (zs .1 .0)) (arr-u8x16 (zs .1 .1 .0)) (arr-u64x256 (zs .1 .1 .1 .0)) (arr-u64x256 (zs .1 .1 .1 .1 .0)) (arr-u8x256 (zs .1 .1 .1 .1 .1 .0)) (arr-u16x256 (zs .1 .1 .1 .1 .1 .1 .0)))) $
+        owned ! T.the-row (Is T.the-row) (LL.makes T.the-type T′.the-plain 𝓤 H A) (with h (zs .0) (zs .1 .0) (zs .1 .1 .0) (zs .1 .1 .1 .0) (zs .1 .1 .1 .1 .0) (zs .1 .1 .1 .1 .1 .0) (zs .1 .1 .1 .1 .1 .1 .0)) _ (is-made h _ was (zs .0) (zs .1 .0) (zs .1 .1 .0) (zs .1 .1 .1 .0) (zs .1 .1 .1 .1 .0) (zs .1 .1 .1 .1 .1 .0) (zs .1 .1 .1 .1 .1 .1 .0) (iss .0) (iss .1 .0) (iss .1 .1 .0) (iss .1 .1 .1 .0) (iss .1 .1 .1 .1 .0) (iss .1 .1 .1 .1 .1 .0) (iss .1 .1 .1 .1 .1 .1 .0)) $ move ! (1 ∷ 0 ∷ 4 ∷ 5 ∷ 6 ∷ []) $ closes ! tt T.the-row (with h (zs .0) (zs .1 .0) (zs .1 .1 .0) (zs .1 .1 .1 .0) (zs .1 .1 .1 .1 .0) (zs .1 .1 .1 .1 .1 .0) (zs .1 .1 .1 .1 .1 .1 .0)) (T′.lowered (with h (zs .0) (zs .1 .0) (zs .1 .1 .0) (zs .1 .1 .1 .0) (zs .1 .1 .1 .1 .0) (zs .1 .1 .1 .1 .1 .0) (zs .1 .1 .1 .1 .1 .1 .0)) ∷ []) b o $
         -- [obs; the borrow; its token; true; the result; true; the numbers; the locals]
-        returns ! (look ! 37 refl) $ forget ! 7 refl $ forget ! 9 refl $ forget ! 11 refl $ forget ! 13 refl $ forget ! 15 refl $ forget ! 17 refl $ forget ! 19 refl $ forget ! 21 refl $ forget ! 23 refl $ forget ! 25 refl $ forget ! 27 refl $ forget ! 29 refl $ forget ! 31 refl $ forget ! 33 refl $ forget ! 35 refl $ forget ! 37 refl $
-        move ! (37 ∷ 38 ∷ []) $ free1 ! $ move ! (35 ∷ 36 ∷ []) $ free1 ! $ move ! (33 ∷ 34 ∷ []) $ free1 ! $ move ! (31 ∷ 32 ∷ []) $ free1 ! $ move ! (29 ∷ 30 ∷ []) $ free1 ! $ move ! (27 ∷ 28 ∷ []) $ free1 ! $ move ! (25 ∷ 26 ∷ []) $ free1 ! $ move ! (23 ∷ 24 ∷ []) $ free1 ! $ move ! (21 ∷ 22 ∷ []) $ free1 ! $ move ! (19 ∷ 20 ∷ []) $ free1 ! $ move ! (17 ∷ 18 ∷ []) $ free1 ! $ move ! (15 ∷ 16 ∷ []) $ free1 ! $ move ! (13 ∷ 14 ∷ []) $ free1 ! $ move ! (11 ∷ 12 ∷ []) $ free1 ! $ move ! (9 ∷ 10 ∷ []) $ free1 ! $ move ! (7 ∷ 8 ∷ []) $ free1 ! $ free0 ! $
-        keep ! (0 ∷ 1 ∷ 2 ∷ 3 ∷ 5 ∷ []) $ by ! (exits r (zs .0) (zs .1 .0) (zs .1 .1 .0) (zs .1 .1 .1 .0) (zs .1 .1 .1 .1 .0) (zs .1 .1 .1 .1 .1 .0) (zs .1 .1 .1 .1 .1 .1 .0) (zs .1 .1 .1 .1 .1 .1 .1 .0) (zs .1 .1 .1 .1 .1 .1 .1 .1 .0) (zs .1 .1 .1 .1 .1 .1 .1 .1 .1 .0) (zs .1 .1 .1 .1 .1 .1 .1 .1 .1 .1 .0) (zs .1 .1 .1 .1 .1 .1 .1 .1 .1 .1 .1 .0) e (subst (λ (ws : List Val). Is R.the-row r ws) (EL.tells R.the-type R′.the-laws r _ is) is)))))))))))))))))))))))))))
+        returns ! (look ! 27 refl) $ forget ! 7 refl $ forget ! 9 refl $ forget ! 11 refl $ forget ! 13 refl $ forget ! 15 refl $ forget ! 17 refl $ forget ! 19 refl $ forget ! 21 refl $ forget ! 23 refl $ forget ! 25 refl $ forget ! 27 refl $
+        move ! (27 ∷ 28 ∷ []) $ free1 ! $ move ! (25 ∷ 26 ∷ []) $ free1 ! $ move ! (23 ∷ 24 ∷ []) $ free1 ! $ move ! (21 ∷ 22 ∷ []) $ free1 ! $ move ! (19 ∷ 20 ∷ []) $ free1 ! $ move ! (17 ∷ 18 ∷ []) $ free1 ! $ move ! (15 ∷ 16 ∷ []) $ free1 ! $ move ! (13 ∷ 14 ∷ []) $ free1 ! $ move ! (11 ∷ 12 ∷ []) $ free1 ! $ move ! (9 ∷ 10 ∷ []) $ free1 ! $ move ! (7 ∷ 8 ∷ []) $ free1 ! $ free0 ! $
+        keep ! (0 ∷ 1 ∷ 2 ∷ 3 ∷ 5 ∷ []) $ by ! (exits r (zs .0) (zs .1 .0) (zs .1 .1 .0) (zs .1 .1 .1 .0) (zs .1 .1 .1 .1 .0) (zs .1 .1 .1 .1 .1 .0) (zs .1 .1 .1 .1 .1 .1 .0) e (subst (λ (ws : List Val). Is R.the-row r ws) (EL.tells R.the-type R′.the-laws r _ is) is))))))))))))))))))))))
 
 module _ {M : Type 1} (𝓤 : URA M) (H : Heap 𝓤) (A : Atoms 𝓤) (W : Given 𝓤 H A) (at-mem : Memory → SProp 𝓤) (run : Routine → Fun 𝓤) where
-  f-walks : (C : Calls 𝓤 H) (Λ : Loops 𝓤 H) → FmC 𝓤 H (W .laws) C → Triple 𝓤 (C #session·step-fields) (GC 𝓤 H A at-mem run) → Walks 𝓤 H A f.ended stayed (WpFn 𝓤 H C Λ code.function) (f.clauses 𝓤 H A at-mem run)
+  f-walks : (C : Calls 𝓤 H) (Λ : Loops 𝓤 H) → FmC 𝓤 H (W .laws) C → Triple 𝓤 (C #session·step-lent) (GC 𝓤 H A at-mem run) → Walks 𝓤 H A f.ended stayed (WpFn 𝓤 H C Λ code.function) (f.clauses 𝓤 H A at-mem run)
   f-walks C Λ fm known = walked 𝓤 H A f.ended stayed (f.clauses 𝓤 H A at-mem run) (WpFn 𝓤 H C Λ code.function) (λ κs. (ptr-vals, (slice-vals, (uint-vals w64, tt)))) (λ κs. (mut-tells (named 0) (κs .0) T.the-row, (shr-slice-tells (named 1) (κs .1 .0) u8, (uint-tells w64, tt))))
       (λ κs qs bounds a _ are. via 𝓤 _ (fst∗ 𝓤 _ (emp 𝓤)) (walk 𝓤 H A W at-mem run (κs .0) (κs .1 .0) (qs .0) (qs .1 .0) bounds (a .0 .ptr .0) (a .0 .ptr .1) (a .0 .name) (a .0 .now) (a .1 .0) (a .1 .1 .0) (are .1 .1 .0 .1) C Λ fm known (are .1 .0)))
 
-f-meets : {M : Type 1} (𝓤 : URA M) (H : Heap 𝓤) (A : Atoms 𝓤) → Given 𝓤 H A → (at-mem : Memory → SProp 𝓤) (run : Routine → Fun 𝓤) (𝓣 : Tables 𝓤 H) → Triple 𝓤 (𝓣 .C #session·step-fields) (GC 𝓤 H A at-mem run)
+f-meets : {M : Type 1} (𝓤 : URA M) (H : Heap 𝓤) (A : Atoms 𝓤) → Given 𝓤 H A → (at-mem : Memory → SProp 𝓤) (run : Routine → Fun 𝓤) (𝓣 : Tables 𝓤 H) → Triple 𝓤 (𝓣 .C #session·step-lent) (GC 𝓤 H A at-mem run)
     → Meets 𝓤 H A f.signature (WpFn 𝓤 H (𝓣 .C) (𝓣 .Λ) code.function) (f.spec 𝓤 H A at-mem run)
 f-meets 𝓤 H A W at-mem run 𝓣 known =
     walk-meets 𝓤 H A f.ended stayed W (goes-ref 𝓤 H A W 2 0 tt (plain (λ _. T.the-row)), (goes-none-slice 𝓤 H A W 2 (1 ∷ []) tt (plain (λ _. u8)) yes, (goes-none 𝓤 H A W 2 (λ _. u64) yes (λ κs x f. refl), tt))) (f.clauses 𝓤 H A at-mem run)
@@ -428,4 +357,4 @@ give-lent-spec 𝓤 H 𝓜 𝓖 𝓡 =
     entered 𝓤 H (tripleOf 𝓤 H (𝓖 .A) f.signature (f.spec 𝓤 H (𝓖 .A) (𝓜 .mem) (𝓡 .run)))
     (tables 𝓤 H 𝓜 𝓡 code.env .C) (tables 𝓤 H 𝓜 𝓡 code.env .Λ) #session·give-lent code.function (code.unfolded 𝓤 H 𝓜 𝓡)
     (f-meets 𝓤 H (𝓖 .A) (givenOf 𝓤 H 𝓜 𝓖) (𝓜 .mem) (𝓡 .run) (tablesOf 𝓤 H 𝓜 (tables 𝓤 H 𝓜 𝓡 code.env))
-    (cited 𝓤 H (GC 𝓤 H (𝓖 .A) (𝓜 .mem) (𝓡 .run)) 𝓜 𝓡 code.env #session·step-fields g-def.routine code.calls-session·step-fields (g-thm.met 𝓤 H 𝓜 𝓖 𝓡)))
+    (cited 𝓤 H (GC 𝓤 H (𝓖 .A) (𝓜 .mem) (𝓡 .run)) 𝓜 𝓡 code.env #session·step-lent g-def.routine code.calls-session·step-lent (g-thm.met 𝓤 H 𝓜 𝓖 𝓡)))

@@ -4,7 +4,9 @@ use mathlib.Core.Path.{_≡_, _∙_, ap}
 use native.Mathlib.Omega.{arith}
 use lib.ListN.{length, drop}
 use Rattle.session.specs.declared.Answer.the-variants.{Accepted}
-use Rattle.session.specs.Machine.{startOf, named, run}
+use Rattle.session.specs.Rules.{named}
+use Rattle.session.specs.Machine.{startOf}
+use Rattle.session.specs.Runs.{run}
 use Rattle.session.specs.Listed.{messagesIn, lastOr}
 use Rattle.session.proofs.ListTheorem.{session-answers}
 use Rattle.session.proofs.Listings.{turn, done}

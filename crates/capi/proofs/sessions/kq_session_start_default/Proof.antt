@@ -32,7 +32,8 @@ use denote.Triple.Spec.{Meets, tripleOf}
 use denote.Triple.Table.{entered, cited}
 use denote.Triple.Walked.{says, Stays, gave-ref, walkOf, goes-gave-ref, Walks, ends-at, walked, walk-meets}
 use denote.Triple.Clauses.{ensured, lasts}
-use Rattle.session.specs.Machine.{startOf, named as versioned, unnamed}
+use Rattle.session.specs.Rules.{named as versioned, unnamed}
+use Rattle.session.specs.Machine.{startOf}
 use Rattle.session.specs.declared.Session.{Session}
 use Rattle.session.proofs.Session as T
 use Rattle.session.proofs.start_in as g

@@ -4,7 +4,7 @@ use mathlib.Core.Path.{_≡_}
 use lib.ListN.{length, drop}
 use borrow.Author.Needs.{needs}
 use borrow.Author.Tests.{eq-eqb, ne-eqb}
-use Rattle.catalog.specs.Lists.{indexOf}
+use Rattle.wire.specs.Lists.{indexOf}
 use Rattle.catalog.specs.Table.{is}
 use Rattle.catalog.proofs.Searches.{index-hit, index-miss, index-end}
 use Rattle.catalog.proofs.streams.find_stream.Statement.{statement}

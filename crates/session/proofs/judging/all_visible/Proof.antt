@@ -1,19 +1,18 @@
 -- `session::judging::all_visible` meets its contract. Assumes nothing.
-use lib.ListN.{take}
-use Rattle.catalog.specs.Table.{rowsOf}
-use Rattle.session.specs.State.{visibleIn}
 use Prim.Native.Nat.{_≤_}
 use mathlib.Core.Path.{_≡_, refl}
 use native.Mathlib.Omega.{arith}
 use Rattle.wire.specs.declared.Cursor.the-variants.{At}
+use Rattle.catalog.specs.Tables.{table}
 use Rattle.session.specs.Events.{oidsAt}
 use Rattle.session.specs.Rules.{allSeen}
-use Rattle.session.proofs.Oids.{seen-turn, seen-miss, seen-done}
+use Rattle.session.specs.State.{visibleIn}
+use Rattle.session.proofs.Oids.{seen-done, seen-turn, seen-miss}
 use Rattle.session.proofs.judging.all_visible.Statement.{statement}
 use Rattle.session.proofs.judging.all_visible.Tie as tie
 
 abbrev Inv-loop : tie.InvT-loop
-Inv-loop place rows keys tags identities columns bytes start count left₀ at₀ left at = (left ≤ left₀) × (allSeen (visibleIn place (take rows (rowsOf keys tags identities columns))) (oidsAt left bytes at) ≡ allSeen (visibleIn place (take rows (rowsOf keys tags identities columns))) (oidsAt count bytes (At start)))
+Inv-loop place rows keys tags identities columns bytes start count left₀ at₀ left at = (left ≤ left₀) × (allSeen (visibleIn place (table rows keys tags identities columns)) (oidsAt left bytes at) ≡ allSeen (visibleIn place (table rows keys tags identities columns)) (oidsAt count bytes (At start)))
 
 abbrev μ-loop : tie.MeasureT-loop
 μ-loop place rows keys tags identities columns bytes start count left₀ at₀ left at = left
@@ -31,7 +30,7 @@ is-found-requires : tie.Need-is-found-requires Inv-loop μ-loop
 is-found-requires c κs = tt
 
 returns : tie.Need-returns Inv-loop μ-loop
-returns c = seen-miss (visibleIn (c .before .before .before .before .before .before .before .args .place) (take (c .before .before .before .before .before .before .before .args .rows) (rowsOf (c .before .before .before .before .before .before .before .args .keys .now) (c .before .before .before .before .before .before .before .args .tags .now) (c .before .before .before .before .before .before .before .args .identities .now) (c .before .before .before .before .before .before .before .args .columns .now)))) _ _ _ (c .before .before .before .number32 .ensures) _ (c .before .before .visible .ensures) _ (c .before .is-found .ensures) _ (c .before .before .before .before .loop-test .taken) (c .if1 .taken) (c .before .before .before .before .before .loop .inv .1)
+returns c = let a = c .before .before .before .before .before .before .before .args in seen-miss (visibleIn (a .place) (table (a .rows) (a .keys .now) (a .tags .now) (a .identities .now) (a .columns .now))) _ _ _ (c .before .before .before .number32 .ensures) _ (c .before .before .visible .ensures) _ (c .before .is-found .ensures) _ (c .before .before .before .before .loop-test .taken) (c .if1 .taken) (c .before .before .before .before .before .loop .inv .1)
 
 sub-left : tie.Need-sub-left Inv-loop μ-loop
 sub-left c = omega arith
@@ -40,10 +39,10 @@ loop-less : tie.Need-loop-less Inv-loop μ-loop
 loop-less c = omega arith
 
 loop-again : tie.Need-loop-again Inv-loop μ-loop
-loop-again c = (omega arith, seen-turn (visibleIn (c .before .before .before .before .before .before .before .args .place) (take (c .before .before .before .before .before .before .before .args .rows) (rowsOf (c .before .before .before .before .before .before .before .args .keys .now) (c .before .before .before .before .before .before .before .args .tags .now) (c .before .before .before .before .before .before .before .args .identities .now) (c .before .before .before .before .before .before .before .args .columns .now)))) _ _ _ (c .before .before .before .number32 .ensures) _ (c .before .before .visible .ensures) _ (c .before .is-found .ensures) _ (c .before .before .before .before .loop-test .taken) (c .if1 .left) (c .before .before .before .before .before .loop .inv .1))
+loop-again c = let a = c .before .before .before .before .before .before .before .args in (omega arith, seen-turn (visibleIn (a .place) (table (a .rows) (a .keys .now) (a .tags .now) (a .identities .now) (a .columns .now))) _ _ _ (c .before .before .before .number32 .ensures) _ (c .before .before .visible .ensures) _ (c .before .is-found .ensures) _ (c .before .before .before .before .loop-test .taken) (c .if1 .left) (c .before .before .before .before .before .loop .inv .1))
 
 returns-2 : tie.Need-returns-2 Inv-loop μ-loop
-returns-2 c = seen-done (visibleIn (c .before .before .before .args .place) (take (c .before .before .before .args .rows) (rowsOf (c .before .before .before .args .keys .now) (c .before .before .before .args .tags .now) (c .before .before .before .args .identities .now) (c .before .before .before .args .columns .now)))) _ _ _ (c .loop-test .left) (c .before .loop .inv .1)
+returns-2 c = let a = c .before .before .before .args in seen-done (visibleIn (a .place) (table (a .rows) (a .keys .now) (a .tags .now) (a .identities .now) (a .columns .now))) _ _ _ (c .loop-test .left) (c .before .loop .inv .1)
 
 pub all-visible-spec : {M : Type 1} → statement M
 all-visible-spec =

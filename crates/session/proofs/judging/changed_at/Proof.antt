@@ -1,38 +1,26 @@
 -- `session::judging::changed_at` meets its contract. Assumes nothing.
 use mathlib.Core.Path.{sym, _∙_}
-use borrow.Author.Needs.{needs}
+use borrow.Author.Tests.{eq-eqb, ne-eqb}
 use Rattle.session.proofs.judging.changed_at.Statement.{statement}
 use Rattle.session.proofs.judging.changed_at.Tie as tie
 
-enum-told : tie.Need-enum-told
-enum-told c = search needs
-
-enum-told-2 : tie.Need-enum-told-2
-enum-told-2 c = search needs
-
-enum-known-place : tie.Need-enum-known-place
-enum-known-place c = search needs
-
-stream-changed-requires : tie.Need-stream-changed-requires
-stream-changed-requires c κs = tt
+holder-at-requires : tie.Need-holder-at-requires
+holder-at-requires c κs = tt
 
 returns : tie.Need-returns
-returns c = search needs
+returns c = sym (rw (← c .before .holder-at .ensures, eq-eqb _ _ (c .if1 .taken)))
+
+is-changed-requires : tie.Need-is-changed-requires
+is-changed-requires c κs = tt
 
 returns-2 : tie.Need-returns-2
-returns-2 c = search needs
-
-returns-3 : tie.Need-returns-3
-returns-3 c = c .stream-changed .ensures ∙ sym (rw (c .before .before .place .given .1))
+returns-2 c = c .is-changed .ensures ∙ sym (rw (← c .before .before .holder-at .ensures, ne-eqb _ _ (c .before .if1 .left)))
 
 pub changed-at-spec : {M : Type 1} → statement M
 changed-at-spec =
     tie.close
     (tie.spec
-    enum-told
-    enum-told-2
-    enum-known-place
-    stream-changed-requires
+    holder-at-requires
     returns
-    returns-2
-    returns-3)
+    is-changed-requires
+    returns-2)

@@ -1,13 +1,12 @@
 -- `session::judging::first_visible` meets its contract. Assumes nothing.
-use lib.ListN.{take}
-use Rattle.catalog.specs.Table.{rowsOf}
+use Rattle.catalog.specs.Tables.{table}
 use Rattle.session.specs.State.{visibleIn}
 use Rattle.session.proofs.Oids.{first-none, first-some}
 use Rattle.session.proofs.judging.first_visible.Statement.{statement}
 use Rattle.session.proofs.judging.first_visible.Tie as tie
 
 returns : tie.Need-returns
-returns c = first-none (visibleIn (c .before .before .args .place) (take (c .before .before .args .rows) (rowsOf (c .before .before .args .keys .now) (c .before .before .args .tags .now) (c .before .before .args .identities .now) (c .before .before .args .columns .now)))) _ _ _ (c .if1 .taken)
+returns c = let a = c .before .before .args in first-none (visibleIn (a .place) (table (a .rows) (a .keys .now) (a .tags .now) (a .identities .now) (a .columns .now))) _ _ _ (c .if1 .taken)
 
 number32-requires : tie.Need-number32-requires
 number32-requires c κs = tt
@@ -16,7 +15,13 @@ visible-requires : tie.Need-visible-requires
 visible-requires c κs = tt
 
 returns-2 : tie.Need-returns-2
-returns-2 c = first-some (visibleIn (c .before .before .before .before .args .place) (take (c .before .before .before .before .args .rows) (rowsOf (c .before .before .before .before .args .keys .now) (c .before .before .before .before .args .tags .now) (c .before .before .before .before .args .identities .now) (c .before .before .before .before .args .columns .now)))) _ _ _ (c .before .number32 .ensures) _ (c .visible .ensures) _ (c .before .before .if1 .left)
+returns-2 c = let a = c .before .before .before .before .args in first-some (visibleIn (a .place) (table (a .rows) (a .keys .now) (a .tags .now) (a .identities .now) (a .columns .now))) _ _ _ (c .before .number32 .ensures) _ (c .visible .ensures) _ (c .before .before .if1 .left)
 
 pub first-visible-spec : {M : Type 1} → statement M
-first-visible-spec = tie.close (tie.spec returns number32-requires visible-requires returns-2)
+first-visible-spec =
+    tie.close
+    (tie.spec
+    returns
+    number32-requires
+    visible-requires
+    returns-2)

@@ -16,4 +16,9 @@ returns c = rw (c .answer-of .ensures, c .before .rule-origin .ensures, c .befor
 
 pub judge-origin-spec : {M : Type 1} → statement M
 judge-origin-spec =
-    tie.close (tie.spec changed-at-requires rule-origin-requires answer-of-requires returns)
+    tie.close
+    (tie.spec
+    changed-at-requires
+    rule-origin-requires
+    answer-of-requires
+    returns)

@@ -2,6 +2,9 @@
 use Rattle.session.proofs.judging.judge_truncate.Statement.{statement}
 use Rattle.session.proofs.judging.judge_truncate.Tie as tie
 
+place-of-requires : tie.Need-place-of-requires
+place-of-requires c κs = tt
+
 all-visible-requires : tie.Need-all-visible-requires
 all-visible-requires c κs = tt
 
@@ -15,12 +18,13 @@ within-requires : tie.Need-within-requires
 within-requires c κs = tt
 
 returns : tie.Need-returns
-returns c = rw (c .within .ensures, c .before .rule-relations .ensures, c .before .before .first-visible .ensures, c .before .before .before .all-visible .ensures)
+returns c = rw (c .within .ensures, c .before .rule-relations .ensures, c .before .before .first-visible .ensures, c .before .before .before .all-visible .ensures, c .before .before .before .before .place-of .ensures)
 
 pub judge-truncate-spec : {M : Type 1} → statement M
 judge-truncate-spec =
     tie.close
     (tie.spec
+    place-of-requires
     all-visible-requires
     first-visible-requires
     rule-relations-requires

@@ -13,8 +13,8 @@ enum-told-2 c = search needs
 enum-known-place : tie.Need-enum-known-place
 enum-known-place c = search needs
 
-mark-stream-requires : tie.Need-mark-stream-requires
-mark-stream-requires c κs = tt
+mark-requires : tie.Need-mark-requires
+mark-requires c κs = tt
 
 returns : tie.Need-returns
 returns c = sym (rw (c .enum-told .given .1))
@@ -23,7 +23,7 @@ returns-2 : tie.Need-returns-2
 returns-2 c = sym (rw (c .enum-told2 .given .1))
 
 returns-3 : tie.Need-returns-3
-returns-3 c = c .mark-stream .ensures ∙ sym (rw (c .before .before .before .place .given .1))
+returns-3 c = c .mark .ensures ∙ sym (rw (c .before .before .before .place .given .1))
 
 pub mark-at-spec : {M : Type 1} → statement M
 mark-at-spec =
@@ -32,7 +32,7 @@ mark-at-spec =
     enum-told
     enum-told-2
     enum-known-place
-    mark-stream-requires
+    mark-requires
     returns
     returns-2
     returns-3)
