@@ -45,13 +45,13 @@ fn length_16(xs: &[u16]) -> usize
 }
 
 // Nothing to run: a lent array has its length, which a proof learns where it is lent as a slice.
-pub fn sized_keys(keys: &[u64; ROWS])
+fn sized_keys(keys: &[u64; ROWS])
     ensures { λ _. ⌜ length (now (keys .entry)) ≡ 256 ⌝ }
 {
     length_64(keys);
 }
 
-pub fn sized(keys: &[u64; ROWS], tags: &[u64; ROWS], identities: &[u8; ROWS], columns: &[u16; ROWS])
+fn sized(keys: &[u64; ROWS], tags: &[u64; ROWS], identities: &[u8; ROWS], columns: &[u16; ROWS])
     ensures { λ _. ⌜ Sized (now (keys .entry)) (now (tags .entry)) (now (identities .entry)) (now (columns .entry)) ⌝ }
 {
     length_64(keys);
@@ -60,13 +60,13 @@ pub fn sized(keys: &[u64; ROWS], tags: &[u64; ROWS], identities: &[u8; ROWS], co
     length_16(columns);
 }
 
-pub fn sized_xids(xids: &[u32; 16])
+fn sized_xids(xids: &[u32; 16])
     ensures { λ _. ⌜ length (now (xids .entry)) ≡ 16 ⌝ }
 {
     length_32(xids);
 }
 
-pub fn sized_streams(xids: &[u32; 16], marks: &[u8; 16])
+fn sized_streams(xids: &[u32; 16], marks: &[u8; 16])
     ensures { λ _. ⌜ (length (now (xids .entry)) ≡ 16) × (length (now (marks .entry)) ≡ 16) ⌝ }
 {
     length_32(xids);

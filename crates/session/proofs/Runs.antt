@@ -19,8 +19,8 @@ use Rattle.session.specs.declared.Session.{Session}
 use Rattle.session.specs.declared.Stepped.{Stepped}
 use Rattle.session.specs.Events.{Event, Begin, Commit, Origin, Relation, Change, Truncate, Neutral, Logical, StreamStart, StreamStop, StreamCommit, StreamAbort, eventOf}
 use Rattle.session.specs.History.{History, entry, place, placeAfter, inBlock, Given, given}
-use Rattle.session.specs.Rules.{rooms, judge, accepts, Heard, heardOf, hears, answerTo, historyAfter, answersBy, historyBy, answers, past}
-use Rattle.session.specs.State.{Layout, StateOf, State, sorted, stateAfter, stateBy}
+use Rattle.session.specs.Rules.{rooms, judge, accepts, Heard, unread, heard, heardOf, hears, answerTo, historyAfter, answersBy, historyBy, answers, past}
+use Rattle.session.specs.State.{Layout, StateOf, State, sorted, answerIn, stateAfter, stateBy}
 use Rattle.session.specs.Machine.{versionIn, placeOf, phaseOf, currentOf, lsnOf, Parts, view, written, partsOf, made, heardStep, stepOf}
 use Rattle.session.specs.Runs.{run, after}
 use Rattle.session.specs.Layouts.{answerHeard, stateHeard, runBy}
@@ -29,9 +29,47 @@ use Rattle.session.proofs.Lawful.{Lawful, sorted-lawful, sorted-sound}
 use Rattle.session.proofs.Agreement as agreement
 use Rattle.session.proofs.Agreement.{same-answer, kept}
 
--- the session's record
+-- WHAT IS HEARD is well formed
+abbrev Well : Heard → Type 0
+Well (unread n o) = Unit {0}
+Well (heard e) = Formed e
+
+hears-well : (v : Version) (p : Place) (xs : List ℕ) → Well (hears v p xs)
+hears-well v p xs = go (readMessage v (inBlock p) xs) (λ m q. read-formed (inBlock p) xs v m q)
+  where
+    go : (r : Read) → ((m : Message) → r ≡ read.Message m → Formed (eventOf m xs)) → Well (heardOf r xs)
+    go (read.Refused k) f = tt
+    go (read.Message m) f = f m refl
+
+-- WHATEVER THE LAYOUT, as long as it has the laws: the answer is the rules', and the next state agrees with the history after it
+module _ (L : Layout) (laws : Lawful L) where
+  module _ (s : StateOf (L .Rows)) (h : History) (a : agreement.Agrees L laws s h) (xs : List ℕ) (g : ℕ) where
+    judged : (e : Event) → Formed e → (v : Bool) → accepts (judge rooms h e) ≡ v → agreement.Agrees L laws (cond v (stateBy L s e g) s) (cond v (entry e (given xs g) ∷ h) h)
+    judged e f true ok = kept L laws s h a e (given xs g) f ok
+    judged e f false ok = a
+
+    follows : (r : Heard) → Well r → (answerHeard L s r ≡ answerTo rooms h r) × agreement.Agrees L laws (stateHeard L s r g) (historyAfter rooms h r (given xs g))
+    follows (unread n o) f = (refl, a)
+    follows (heard e) f = rw (same-answer L laws s h a e) (refl, judged e f (accepts (judge rooms h e)) refl)
+
+  pub layout-run : (v : Version) (l : List Given) (s : StateOf (L .Rows)) (h : History) → agreement.Agrees L laws s h → runBy L v s l ≡ answers v h l
+  unfolding runBy answersBy
+  layout-run v [] s h a = refl
+  layout-run v (given xs g ∷ l) s h a =
+      let k = follows s h a xs g (hears v (place h) xs) (hears-well v (place h) xs) in
+      ap (λ (p : Place). answerHeard L s (hears v p xs) ∷ runBy L v (stateHeard L s (hears v p xs) g) l) (a .at)
+      ∙ ap₂ (λ (x : Answer) (t : List Answer). x ∷ t) (k .0)
+      (layout-run v l (stateHeard L s (hears v (place h) xs) g) (historyAfter rooms h (hears v (place h) xs) (given xs g)) (k .1))
+
+-- THE SESSION'S RECORD
 abbrev pub Agrees : State → History → Type 0
 Agrees s h = agreement.Agrees sorted sorted-lawful s h
+
+abbrev pub says : Session → State
+says s = view (partsOf s)
+
+abbrev pub versionFor : Session → Version
+versionFor s = versionIn (partsOf s .head)
 
 -- THE WORDS of a head give back what they were made of
 
@@ -79,42 +117,51 @@ fits-after StreamStop p f w = tt
 fits-after (StreamCommit x) p f w = w
 fits-after (StreamAbort x sub) p f w = w
 
+-- what a step leaves in the record is the next state, and its answer that state's
+module _ (s : Session) (g : ℕ) where
+  abbrev after-event : Event → Session
+  after-event e = made (getD (s .head) 1 0) (written (partsOf s) (stateAfter (says s) e g))
+
+  event-says : (e : Event) → Formed e → (v : Bool) (h : History) → Agrees (cond v (stateAfter (says s) e g) (says s)) h
+      → says (cond v (after-event e) s) ≡ cond v (stateAfter (says s) e g) (says s)
+  event-says e f true h k =
+      view-written (getD (s .head) 1 0) (partsOf s) (stateAfter (says s) e g)
+      (fits-after e (says s .place) f (place-fits (partsOf s .head .phase) (getD (s .head) 2 0) (getD (s .head) 0 0)))
+      (sorted-sound (stateAfter (says s) e g .table) (k .table .sound) .few)
+  event-says e f false h k = refl
+
+  heard-says : (r : Heard) → Well r → (h : History) → Agrees (stateHeard sorted (says s) r g) h → says (heardStep s r g .session) ≡ stateHeard sorted (says s) r g
+  heard-says (unread n o) f h k = refl
+  heard-says (heard e) f h k = event-says e f (accepts (answerIn (says s) e)) h k
+
+  heard-answers : (r : Heard) → heardStep s r g .answer ≡ answerHeard sorted (says s) r
+  heard-answers (unread n o) = refl
+  heard-answers (heard e) = refl
+
+  version-stays : (r : Heard) → versionFor (heardStep s r g .session) ≡ versionFor s
+  version-stays (unread n o) = refl
+  version-stays (heard e) = go (accepts (answerIn (says s) e))
+    where
+      go : (v : Bool) → versionFor (cond v (after-event e) s) ≡ versionFor s
+      go true = refl
+      go false = refl
+
 -- ONE STEP: its answer is the rules', and the record then agrees with the history after it
-abbrev pub says : Session → State
-says s = view (partsOf s)
-
-abbrev pub versionFor : Session → Version
-versionFor s = versionIn (partsOf s .head)
-
 module _ (s : Session) (h : History) (a : Agrees (says s) h) (xs : List ℕ) (g : ℕ) where
   abbrev Follows : Stepped → Heard → Type 0
   Follows n r = (n .answer ≡ answerTo rooms h r) × Agrees (says (n .session)) (historyAfter rooms h r (given xs g)) × (versionFor (n .session) ≡ versionFor s)
 
-  abbrev after-event : Event → Session
-  after-event e = made (getD (s .head) 1 0) (written (partsOf s) (stateAfter (says s) e g))
-
-  judged : (e : Event) → Formed e → (v : Bool) → accepts (judge rooms h e) ≡ v
-      → Agrees (says (cond v (after-event e) s)) (cond v (entry e (given xs g) ∷ h) h) × (versionFor (cond v (after-event e) s) ≡ versionFor s)
-  judged e f true ok =
-      let k = kept sorted sorted-lawful (says s) h a e (given xs g) f ok in
-      let w = fits-after e (says s .place) f (place-fits (partsOf s .head .phase) (getD (s .head) 2 0) (getD (s .head) 0 0)) in (
-        rw (view-written (getD (s .head) 1 0) (partsOf s) (stateAfter (says s) e g) w (sorted-sound (stateAfter (says s) e g .table) (k .table .sound) .few)) k,
-        refl,
-      )
-  judged e f false ok = (a, refl)
-
-  read-follows : (r : Read) → ((m : Message) → r ≡ read.Message m → Formed (eventOf m xs)) → Follows (heardStep s (heardOf r xs) g) (heardOf r xs)
-  read-follows (read.Refused k) f = (refl, a, refl)
-  read-follows (read.Message m) f =
-      let k = judged (eventOf m xs) (f m refl) (accepts (judge rooms h (eventOf m xs))) refl in
-      rw (same-answer sorted sorted-lawful (says s) h a (eventOf m xs)) (refl, k .0, k .1)
+  heard-follows : (r : Heard) → Well r → Follows (heardStep s r g) r
+  heard-follows r f =
+      let k = follows sorted sorted-lawful (says s) h a xs g r f in
+      (heard-answers s g r ∙ k .0, rw (heard-says s g r f (historyAfter rooms h r (given xs g)) (k .1)) (k .1), version-stays s g r)
 
   pub step-follows : Follows (stepOf s xs g) (hears (versionFor s) (place h) xs)
   unfolding stepOf
   step-follows = go (says s .place) (a .at)
     where
       go : (p : Place) → p ≡ place h → Follows (heardStep s (hears (versionFor s) p xs) g) (hears (versionFor s) (place h) xs)
-      go p e = rw e (read-follows (readMessage (versionFor s) (inBlock (place h)) xs) (λ m q. read-formed (inBlock (place h)) xs (versionFor s) m q))
+      go p e = rw e (heard-follows (hears (versionFor s) (place h) xs) (hears-well (versionFor s) (place h) xs))
 
 -- A LIST
 pub agree-run : (l : List Given) (s : Session) (h : History) → Agrees (says s) h → run s l ≡ answers (versionFor s) h l
@@ -135,28 +182,3 @@ agree-after (given xs g ∷ l) s h a =
     let k = step-follows s h a xs g in
     let n = historyAfter rooms h (hears (versionFor s) (place h) xs) (given xs g) in
     moved (after (stepOf s xs g .session) l) n l (versionFor (stepOf s xs g .session)) (versionFor s) (k .2) (agree-after l (stepOf s xs g .session) n (k .1))
-
--- WHATEVER THE LAYOUT, as long as it has the laws
-module _ (L : Layout) (laws : Lawful L) where
-  module _ (s : StateOf (L .Rows)) (h : History) (a : agreement.Agrees L laws s h) (xs : List ℕ) (g : ℕ) where
-    abbrev FollowsBy : Heard → Type 0
-    FollowsBy r = (answerHeard L s r ≡ answerTo rooms h r) × agreement.Agrees L laws (stateHeard L s r g) (historyAfter rooms h r (given xs g))
-
-    judged-by : (e : Event) → Formed e → (v : Bool) → accepts (judge rooms h e) ≡ v → agreement.Agrees L laws (cond v (stateBy L s e g) s) (cond v (entry e (given xs g) ∷ h) h)
-    judged-by e f true ok = kept L laws s h a e (given xs g) f ok
-    judged-by e f false ok = a
-
-    read-by : (r : Read) → ((m : Message) → r ≡ read.Message m → Formed (eventOf m xs)) → FollowsBy (heardOf r xs)
-    read-by (read.Refused k) f = (refl, a)
-    read-by (read.Message m) f = rw (same-answer L laws s h a (eventOf m xs)) (refl, judged-by (eventOf m xs) (f m refl) (accepts (judge rooms h (eventOf m xs))) refl)
-
-    step-by : (v : Version) → FollowsBy (hears v (place h) xs)
-    step-by v = read-by (readMessage v (inBlock (place h)) xs) (λ m q. read-formed (inBlock (place h)) xs v m q)
-
-  pub layout-run : (v : Version) (l : List Given) (s : StateOf (L .Rows)) (h : History) → agreement.Agrees L laws s h → runBy L v s l ≡ answers v h l
-  unfolding runBy answersBy
-  layout-run v [] s h a = refl
-  layout-run v (given xs g ∷ l) s h a =
-      ap (λ (p : Place). answerHeard L s (hears v p xs) ∷ runBy L v (stateHeard L s (hears v p xs) g) l) (a .at)
-      ∙ ap₂ (λ (x : Answer) (t : List Answer). x ∷ t) (step-by s h a xs g v .0)
-      (layout-run v l (stateHeard L s (hears v (place h) xs) g) (historyAfter rooms h (hears v (place h) xs) (given xs g)) (step-by s h a xs g v .1))

@@ -19,9 +19,7 @@ use Rattle.session.specs.Events.{Event}
 use Rattle.session.specs.Rules.{Sight, accepts, Heard, unread, heard, hears, Start, versionOf}
 use Rattle.session.specs.State.{State, state, sightIn, answerIn, stateAfter}
 
--- THE RECORD
-
--- a place as numbers: phase 1 in a transaction, 2 in a block, else idle
+-- A PLACE as numbers: phase 1 in a transaction, 2 in a block, else idle
 abbrev pub placeOf : ℕ → ℕ → ℕ → Place
 placeOf phase current lsn = cond (eqb phase 1) (Transaction lsn) (cond (eqb phase 2) (Block current) Idle)
 
