@@ -179,7 +179,8 @@ static uint32_t judged(session *s, const message *m, uint64_t tag, answer *to)
     case 'E': return stream_stop(s);
     case 'c': case 'A': return stream_end(s, m);
     case 'O': return s->place == IDLE || *changed(s) ? PLACE : 0;
-    default: return s->place == IDLE ? PLACE : 0;  /* Type and Message */
+    case 'M': return s->place == IDLE && m->logical.flags ? PLACE : 0;
+    default: return s->place == IDLE ? PLACE : 0;  /* Type */
     }
 }
 

@@ -56,7 +56,8 @@ impl Session {
                 self.announce(relation, Announcement { tag, identity, columns: count })?
             }
             Message::Origin { .. } => test(self.place != Place::Idle && !*self.changed()?, Refusal::PLACE)?,
-            Message::Type { .. } | Message::Logical { .. } => test(self.place != Place::Idle, Refusal::PLACE)?,
+            Message::Type { .. } => test(self.place != Place::Idle, Refusal::PLACE)?,
+            Message::Logical { flags, .. } => test(flags == 0 || self.place != Place::Idle, Refusal::PLACE)?,
             Message::StreamStart { xid, first } => self.stream_start(xid, first)?,
             Message::StreamStop => {
                 test(matches!(self.place, Place::Block { .. }), Refusal::PLACE)?;

@@ -56,7 +56,7 @@ pub enum Message<'a> {
         restart_identity: bool,
         relations: Oids<'a>,
     },
-    /// A logical decoding message.
+    /// A logical decoding message. One that is not transactional may stand anywhere, also outside a transaction.
     Logical {
         xid: Option<u32>,
         transactional: bool,

@@ -114,6 +114,7 @@ fn put_place(line: &mut [u8], at: usize, place: Place, m: Message) -> usize {
     let at = put_standing(line, at, place);
     match m {
         Message::Origin(_) => put_late(line, at, place),
+        Message::Message(_) => text::put(line, at, b" and the Message is transactional"),
         _ => at,
     }
 }

@@ -9,6 +9,7 @@ pub mod Agreement
 pub mod Runs
 pub mod Refusals
 pub mod ListTheorem
+pub mod Markers
 pub mod FirstFitLaws
 pub mod Named
 pub mod FirstFit

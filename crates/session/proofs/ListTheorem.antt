@@ -47,13 +47,14 @@ starts start = fresh sorted sorted-lawful
 pub session-answers : (start : Start) (l : List Given) → run (startOf start) l ≡ answers (versionOf start) [] l
 session-answers start l = agree-run l (startOf start) [] (starts start) ∙ same-hearing-answers (versionFor (startOf start)) (versionOf start) (start-hears start) l []
 
--- The record that any list leaves shows what the history of that list shows: where it stands, what is open, what was changed, what each
--- holder announced, and how many there are.
+-- The record that any list leaves agrees with the history of that list.
+pub agrees-always : (start : Start) (l : List Given) → Agrees (says (after (startOf start) l)) (past (versionOf start) [] l)
+agrees-always start l = rw (← same-hearing-past (versionFor (startOf start)) (versionOf start) (start-hears start) l []) (agree-after l (startOf start) [] (starts start))
+
+-- It shows what that history shows: where it stands, what is open, what was changed, what each holder announced, and how many there are.
 pub session-shows : (start : Start) (l : List Given) → Same (shows (after (startOf start) l)) (sightOf (past (versionOf start) [] l))
-session-shows start l =
-    rw (← same-hearing-past (versionFor (startOf start)) (versionOf start) (start-hears start) l [])
-    (same-sight sorted sorted-lawful (says (after (startOf start) l)) (past (versionFor (startOf start)) [] l) (agree-after l (startOf start) [] (starts start)))
+session-shows start l = same-sight sorted sorted-lawful (says (after (startOf start) l)) (past (versionOf start) [] l) (agrees-always start l)
 
 -- It has its announcements sorted by holder, then OID, each once.
 pub sorted-always : (start : Start) (l : List Given) → Sorted (rowsIn (tableOf (partsOf (after (startOf start) l))))
-sorted-always start l = sorted-sound (tableOf (partsOf (after (startOf start) l))) (agree-after l (startOf start) [] (starts start) .table .sound) .rows .sorted
+sorted-always start l = sorted-sound (tableOf (partsOf (after (startOf start) l))) (agrees-always start l .table .sound) .rows .sorted

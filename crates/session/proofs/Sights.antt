@@ -7,7 +7,7 @@ use Rattle.session.specs.declared.Place.{Place}
 use Rattle.session.specs.declared.Place.the-variants.{Idle, Transaction, Block}
 use Rattle.session.specs.Events.{Event, Begin, Commit, Origin, Relation, Change, Truncate, Neutral, Logical, StreamStart, StreamStop, StreamCommit, StreamAbort}
 use Rattle.session.specs.History.{Announced, isAnnounced, orElse, isIdle, holderAt}
-use Rattle.session.specs.Rules.{Rooms, Sight, visibleAt, visible, test, shaped, allSeen, firstSeen, ruleBegin, ruleCommit, ruleOrigin, ruleChange, ruleNeutral, ruleStreamStop, ruleStreamEnd, judgeBy}
+use Rattle.session.specs.Rules.{Rooms, Sight, visibleAt, visible, test, shaped, allSeen, firstSeen, ruleBegin, ruleCommit, ruleOrigin, ruleChange, ruleNeutral, ruleLogical, ruleStreamStop, ruleStreamEnd, judgeBy}
 
 -- a rule asks for a change in the transaction of its own place only
 pub record Same (a b : Sight) : Type 0 where
@@ -49,7 +49,7 @@ module _ (r : Rooms) (a b : Sight) (s : Same a b) where
       ap (λ (p : Place). test (not (isIdle p)) 7 (test (allSeen (visible a) os) 9 (shaped (firstSeen (visible a) os) []))) (s .place)
       ∙ ap₂ (λ (v : Bool) (k : Announced). test (not (isIdle (b .place))) 7 (test v 9 (shaped k []))) (all-visible os) (first-visible os)
   same-judged Neutral = ap ruleNeutral (s .place)
-  same-judged (Logical v) = ap ruleNeutral (s .place)
+  same-judged (Logical v) = ap (λ (p : Place). ruleLogical p v) (s .place)
   same-judged (StreamStart x first) = rw (s .place, s .opened x, s .openCount)
   same-judged StreamStop = ap ruleStreamStop (s .place)
   same-judged (StreamCommit x) = ap₂ ruleStreamEnd (s .place) (s .opened x)

@@ -31,8 +31,8 @@ pub data Event : Type 0 where
   Truncate : (xid : ℕ) (oids : List ℕ) → Event
   -- Y
   Neutral : Event
-  -- M: whether it belongs to a transaction (flag 1)
-  Logical : (bound : Bool) → Event
+  -- M: whether it is transactional (flag 1)
+  Logical : (transactional : Bool) → Event
   -- S: xid, and whether it is the first
   StreamStart : (xid : ℕ) (first : Bool) → Event
   -- E

@@ -78,9 +78,13 @@ ruleStreamStop p = test (inBlock p) 7 answer.Accepted
 abbrev pub ruleStreamEnd : Place → Bool → Answer
 ruleStreamEnd p opened = test (isIdle p) 7 (test opened 8 answer.Accepted)
 
--- R, Y, M: in a transaction or block, else 7.
+-- R, Y: in a transaction or block, else 7.
 abbrev pub ruleNeutral : Place → Answer
 ruleNeutral p = test (not (isIdle p)) 7 answer.Accepted
+
+-- M (request 104): with flag 1, transactional, in a transaction or block, with flag 0 anywhere, else 7.
+abbrev pub ruleLogical : Place → Bool → Answer
+ruleLogical p transactional = test (not (isIdle p) || not transactional) 7 answer.Accepted
 
 -- R then 11: exactly when it would make a 257th pair, so not where its pair is live.
 abbrev pub ruleRelation : Place → Bool → Bool → Answer
@@ -130,7 +134,7 @@ judgeBy r s (Relation o i c) = ruleRelation (s .place) (isAnnounced (s .held (ho
 judgeBy r s (Change x o ts) = ruleChange (s .place) (visible s o) ts
 judgeBy r s (Truncate x os) = ruleTruncate (s .place) (visible s) os
 judgeBy r s Neutral = ruleNeutral (s .place)
-judgeBy r s (Logical v) = ruleNeutral (s .place)
+judgeBy r s (Logical v) = ruleLogical (s .place) v
 judgeBy r s (StreamStart x first) = ruleStreamStart (s .place) first (s .opened x) (leb (r .streams) (s .openCount))
 judgeBy r s StreamStop = ruleStreamStop (s .place)
 judgeBy r s (StreamCommit x) = ruleStreamEnd (s .place) (s .opened x)

@@ -4,7 +4,7 @@ ghost use mathlib.Core.Bool.{cond, not, _||_};
 ghost use mathlib.Core.List.{[]};
 ghost use Rattle.session.specs.Events.{tuple};
 ghost use Rattle.session.specs.History.{inBlock, holderAt, isIdle, isAnnounced};
-ghost use Rattle.session.specs.Rules.{test, ruleBegin, ruleCommit, ruleOrigin, ruleNeutral, ruleStreamStart, ruleStreamStop, ruleStreamEnd, fits, allFit, shaped, accepts};
+ghost use Rattle.session.specs.Rules.{test, ruleBegin, ruleCommit, ruleOrigin, ruleNeutral, ruleLogical, ruleStreamStart, ruleStreamStop, ruleStreamEnd, fits, allFit, shaped, accepts};
 ghost use Rattle.session.specs.State.{announcedBy};
 ghost use Rattle.session.specs.Machine.{placeIn, flagIn};
 ghost use Rattle.session.specs.Acts.{tuplesOf, answered};
@@ -123,6 +123,16 @@ pub fn rule_neutral(place: Place) -> u8
 {
     match place {
         Place::Idle => Refusal::PLACE,
+        Place::Transaction(_) => 0,
+        Place::Block(_) => 0,
+    }
+}
+
+pub fn rule_logical(place: Place, transactional: bool) -> u8
+    ensures { λ r. ⌜ answered r ≡ ruleLogical place transactional ⌝ }
+{
+    match place {
+        Place::Idle => { if transactional { Refusal::PLACE } else { 0 } }
         Place::Transaction(_) => 0,
         Place::Block(_) => 0,
     }

@@ -233,7 +233,7 @@ impl History {
                 let announcement = Announcement { tag, identity: flat[7], columns: flat[8] };
                 (Relation { oid: b, announcement }, None)
             }
-            5 | 10 => {
+            5 => {
                 test(here != Idle, 7)?;
                 (Other, None)
             }
@@ -245,6 +245,11 @@ impl History {
                 let mut oids = Reader { bytes, at: d };
                 let seen: Result<Vec<_>, _> = (0..b).map(|_| self.change(oids.oid()?[0], &[])).collect();
                 (Change, Some(seen?[0]))
+            }
+            10 => {
+                // only a transactional one needs a transaction
+                test(b == 0 || here != Idle, 7)?;
+                (Other, None)
             }
             11 => {
                 test(here == Idle, 7)?;

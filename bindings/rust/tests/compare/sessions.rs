@@ -67,6 +67,10 @@ fn stream_abort(xid: u32, sub_xid: u32) -> Draft {
     Draft::new(b'A').word(xid).word(sub_xid)
 }
 
+fn logical(rng: &mut Rng, xid: Option<u32>, transactional: bool) -> Draft {
+    Draft::new(b'M').xid(xid).byte(transactional.into()).long(7).text(rng, 4).value(rng, 4)
+}
+
 fn relation(rng: &mut Rng, xid: Option<u32>, oid: u32) -> Draft {
     let count = rng.below(3) as u16;
     Draft::new(b'R').xid(xid).word(oid).text(rng, 2).text(rng, 2).byte(rng.pick(b"dnfi")).columns(rng, count)
@@ -98,6 +102,10 @@ fn idle(rng: &mut Rng, history: &History, pool: &Pool) -> Draft {
     let open: Vec<u64> = history.open().into_iter().collect();
     let xid = pool.xid(rng);
     let known = if open.is_empty() || rng.one_in(10) { xid } else { rng.pick(&open) as u32 };
+    if rng.one_in(12) {
+        let transactional = rng.one_in(4);
+        return logical(rng, None, transactional);
+    }
     match rng.below(9 + pool.closes) {
         0..=3 => begin(rng, xid),
         4 | 5 => stream_start(xid, !history.is_open(xid.into())),
@@ -121,7 +129,10 @@ fn inside(rng: &mut Rng, history: &History, pool: &Pool) -> Draft {
     }
     match n - pool.ends {
         0 => Draft::new(b'O').long(7).text(rng, 4),
-        1 => Draft::new(b'M').xid(xid).byte(1).long(7).text(rng, 4).value(rng, 4),
+        1 => {
+            let transactional = rng.one_in(2);
+            logical(rng, xid, transactional)
+        }
         2 => Draft::new(b'Y').xid(xid).word(8).text(rng, 4).text(rng, 4),
         3 | 4 => {
             let oids: Vec<u32> = (0..=rng.below(3)).map(|_| pool.oid(rng)).collect();
@@ -301,7 +312,7 @@ fn sequences() {
 fn room_for_streams() {
     let mut rng = Rng::new(32);
     let (mut tally, mut moves) = (Tally::new(), Moves::default());
-    for _ in 0..200 {
+    for _ in 0..800 {
         compare(&mut rng, Some(2), 400, &MANY_STREAMS, &mut tally, &mut moves).look_everywhere(&mut rng, &MANY_STREAMS);
     }
     tally.has_seen(&[0, 2, 3, 4, 5, 6, 7, 8, 9, 10, 12], 1);
@@ -312,13 +323,45 @@ fn room_for_streams() {
 fn room_for_announcements() {
     let mut rng = Rng::new(33);
     let (mut tally, mut moves) = (Tally::new(), Moves::default());
-    for _ in 0..20 {
+    for _ in 0..40 {
         // of few holders, mostly announcements that are there already
         let pool = Pool { xids: rng.pick(&[1, 3, 12]), ..MANY_OIDS };
         compare(&mut rng, Some(2), 1_200, &pool, &mut tally, &mut moves).look_everywhere(&mut rng, &pool);
     }
     tally.has_seen(&[0, 2, 3, 4, 5, 6, 7, 8, 9, 10, 11], 1);
     moves.have_been_everywhere(10);
+}
+
+/// Before each message of a sequence the record is given a logical one, of which the history is not told: it is accepted anywhere with
+/// flag 0 and outside idle with flag 1, it leaves the record as it was, and the sequence is answered as without it.
+#[test]
+fn logical_messages() {
+    let mut rng = Rng::new(35);
+    let mut seen = [[0; 2]; 3];
+    for _ in 0..400 {
+        let mut sessions = Sessions::start(Some(2));
+        for tag in 0..60 {
+            let place = sessions.history.place();
+            let xid = sessions.history.in_block().then(|| MIXED.xid(&mut rng));
+            let transactional = rng.one_in(2);
+            let bytes = logical(&mut rng, xid, transactional).0;
+            let expected = if transactional && place == Place::Idle { 7 } else { 0 };
+            let before = sessions.record.value.clone();
+            assert_eq!(give(&mut sessions.record, &bytes, tag), (expected, [0; 4]));
+            assert!(sessions.record.value == before, "a logical message changed the session");
+            let at = match place {
+                Place::Idle => 0,
+                Place::Transaction(_) => 1,
+                Place::Block(_) => 2,
+            };
+            seen[at][usize::from(transactional)] += 1;
+            let bytes = next(&mut rng, &sessions.history, &MIXED);
+            sessions.give(&bytes, tag);
+        }
+        sessions.look_everywhere(&mut rng, &MIXED);
+    }
+    println!("{seen:?}");
+    assert!(seen.iter().flatten().all(|&times| times >= 100), "{seen:?}");
 }
 
 /// Makes a record up: of one that was driven some bytes are changed, the front ones more often, or a part, or all.
