@@ -1,7 +1,7 @@
 -- What the session's code hands on: what is heard, with a Change's tuples as numbers and a Truncate's OIDs by where they start; a rule's refusal as its number.
 use Prim.Native.Nat.{ℕ, _%_}
 use mathlib.Core.List.{List, [], _∷_}
-use mathlib.Core.Bool.{cond}
+use mathlib.Core.Bool.{true, false, cond}
 use lib.Dec.{eqb}
 use Rattle.wire.specs.declared.Cursor.the-variants.{At}
 use Rattle.session.specs.declared.Tuples.{Tuples}
@@ -25,7 +25,8 @@ eventIn act.Origin xs = Origin
 eventIn (act.Relation o s) xs = Relation o (s .identity % 256) (s .columns % 65536)
 eventIn (act.Truncate count start x) xs = Truncate x (oidsAt count xs (At start))
 eventIn act.Neutral xs = Neutral
-eventIn (act.Logical flags) xs = Logical (eqb flags 1)
+eventIn act.Logical xs = Logical true
+eventIn act.Marker xs = Logical false
 eventIn (act.StreamStart x first) xs = StreamStart x (eqb first 1)
 eventIn act.StreamStop xs = StreamStop
 eventIn (act.StreamCommit x) xs = StreamCommit x

@@ -11,6 +11,7 @@ use crate::Act;
 use crate::Looked;
 use crate::Shape;
 use crate::Tuples;
+use message::LogicalMessage;
 use message::Message;
 use message::OldTuple;
 use message::Relation;
@@ -152,6 +153,16 @@ pub fn truncate(x: Truncate) -> Act
     }
 }
 
+pub fn logical(x: LogicalMessage) -> Act
+    ensures { λ r. ⌜ ((xs : List ℕ) → eventIn r xs ≡ eventOf (Message.Message x) xs) ⌝ }
+{
+    if x.flags == 1 {
+        Act::Logical
+    } else {
+        Act::Marker
+    }
+}
+
 // What the session looks at in a message that was read, whose bytes are lent.
 pub fn looked_at(m: Message, bytes: &[u8]) -> Looked
     ensures { λ r. ⌜ heardIn r (now (bytes .entry)) ≡ heard (eventOf m (now (bytes .entry))) ⌝ }
@@ -169,9 +180,7 @@ pub fn looked_at(m: Message, bytes: &[u8]) -> Looked
         Message::Update(x) => update(x, bytes),
         Message::Delete(x) => change(x.xid, x.relation, wide8(x.image), count_at(bytes, x.tuple)),
         Message::Truncate(x) => Looked::Other(truncate(x)),
-        Message::Message(x) => Looked::Other(Act::Logical {
-            flags: wide8(x.flags),
-        }),
+        Message::Message(x) => Looked::Other(logical(x)),
         Message::StreamStart { xid, first } => Looked::Other(Act::StreamStart {
             xid,
             first: wide8(first),

@@ -59,14 +59,14 @@ truncate-requires c κs = tt
 enum-known-m-8 : tie.Need-enum-known-m-8
 enum-known-m-8 c = search needs
 
-wide8-requires-2 : tie.Need-wide8-requires-2
-wide8-requires-2 c κs = tt
+logical-requires : tie.Need-logical-requires
+logical-requires c κs = tt
 
 enum-known-m-9 : tie.Need-enum-known-m-9
 enum-known-m-9 c = search needs
 
-wide8-requires-3 : tie.Need-wide8-requires-3
-wide8-requires-3 c κs = tt
+wide8-requires-2 : tie.Need-wide8-requires-2
+wide8-requires-2 c κs = tt
 
 enum-told-3 : tie.Need-enum-told-3
 enum-told-3 c = search needs
@@ -105,10 +105,10 @@ returns-9 : tie.Need-returns-9
 returns-9 c = rw (c .before .before .m7 .given .1) (ap heard (c .truncate .ensures (c .before .before .before .before .before .args .bytes .now)))
 
 returns-10 : tie.Need-returns-10
-returns-10 c = rw (c .before .before .m8 .given .1, c .wide82 .ensures .0)
+returns-10 c = rw (c .before .before .m8 .given .1) (ap heard (c .logical .ensures (c .before .before .before .before .before .args .bytes .now)))
 
 returns-11 : tie.Need-returns-11
-returns-11 c = rw (c .before .before .m9 .given .1, c .wide83 .ensures .0)
+returns-11 c = rw (c .before .before .m9 .given .1, c .wide82 .ensures .0)
 
 returns-12 : tie.Need-returns-12
 returns-12 c = rw (c .enum-told3 .given .1)
@@ -141,9 +141,9 @@ looked-at-spec =
     enum-known-m-7
     truncate-requires
     enum-known-m-8
-    wide8-requires-2
+    logical-requires
     enum-known-m-9
-    wide8-requires-3
+    wide8-requires-2
     enum-told-3
     enum-known-m-10
     enum-known-m-11

@@ -54,8 +54,8 @@ rule-neutral-requires c κs = tt
 answer-of-requires-2 : tie.Need-answer-of-requires-2
 answer-of-requires-2 c κs = tt
 
-enum-known-a-5 : tie.Need-enum-known-a-5
-enum-known-a-5 c = search needs
+enum-told-3 : tie.Need-enum-told-3
+enum-told-3 c = search needs
 
 rule-logical-requires : tie.Need-rule-logical-requires
 rule-logical-requires c κs = tt
@@ -63,29 +63,38 @@ rule-logical-requires c κs = tt
 answer-of-requires-3 : tie.Need-answer-of-requires-3
 answer-of-requires-3 c κs = tt
 
-enum-known-a-6 : tie.Need-enum-known-a-6
-enum-known-a-6 c = search needs
+enum-told-4 : tie.Need-enum-told-4
+enum-told-4 c = search needs
 
-judge-stream-start-requires : tie.Need-judge-stream-start-requires
-judge-stream-start-requires c κs = tt
-
-enum-told-3 : tie.Need-enum-told-3
-enum-told-3 c = search needs
-
-rule-stream-stop-requires : tie.Need-rule-stream-stop-requires
-rule-stream-stop-requires c κs = tt
+rule-logical-requires-2 : tie.Need-rule-logical-requires-2
+rule-logical-requires-2 c κs = tt
 
 answer-of-requires-4 : tie.Need-answer-of-requires-4
 answer-of-requires-4 c κs = tt
 
-enum-known-a-7 : tie.Need-enum-known-a-7
-enum-known-a-7 c = search needs
+enum-known-a-5 : tie.Need-enum-known-a-5
+enum-known-a-5 c = search needs
+
+judge-stream-start-requires : tie.Need-judge-stream-start-requires
+judge-stream-start-requires c κs = tt
+
+enum-told-5 : tie.Need-enum-told-5
+enum-told-5 c = search needs
+
+rule-stream-stop-requires : tie.Need-rule-stream-stop-requires
+rule-stream-stop-requires c κs = tt
+
+answer-of-requires-5 : tie.Need-answer-of-requires-5
+answer-of-requires-5 c κs = tt
+
+enum-known-a-6 : tie.Need-enum-known-a-6
+enum-known-a-6 c = search needs
 
 judge-stream-end-requires : tie.Need-judge-stream-end-requires
 judge-stream-end-requires c κs = tt
 
-enum-known-a-8 : tie.Need-enum-known-a-8
-enum-known-a-8 c = search needs
+enum-known-a-7 : tie.Need-enum-known-a-7
+enum-known-a-7 c = search needs
 
 judge-stream-end-requires-2 : tie.Need-judge-stream-end-requires-2
 judge-stream-end-requires-2 c κs = tt
@@ -109,19 +118,22 @@ returns-6 : tie.Need-returns-6
 returns-6 c = let a = c .before .before .before .before .before .before .args in judged (parts (a .head) (a .xids .now) (a .marks .now) (a .keys .now) (a .tags .now) (a .identities .now) (a .columns .now)) (a .bytes .now) _ _ (c .before .before .enum-told2 .given .1) _ (flagIn (a .head)) (c .before .before .before .before .place-of .ensures) refl _ (c .answer-of2 .ensures ∙ c .before .rule-neutral .ensures)
 
 returns-7 : tie.Need-returns-7
-returns-7 c = let a = c .before .before .before .before .before .before .before .args in judged (parts (a .head) (a .xids .now) (a .marks .now) (a .keys .now) (a .tags .now) (a .identities .now) (a .columns .now)) (a .bytes .now) _ _ (c .before .before .before .a5 .given .1) _ (flagIn (a .head)) (c .before .before .before .before .before .place-of .ensures) refl _ (c .answer-of3 .ensures ∙ c .before .rule-logical .ensures)
+returns-7 c = let a = c .before .before .before .before .before .before .args in judged (parts (a .head) (a .xids .now) (a .marks .now) (a .keys .now) (a .tags .now) (a .identities .now) (a .columns .now)) (a .bytes .now) _ _ (c .before .before .enum-told3 .given .1) _ (flagIn (a .head)) (c .before .before .before .before .place-of .ensures) refl _ (c .answer-of3 .ensures ∙ c .before .rule-logical .ensures)
 
 returns-8 : tie.Need-returns-8
-returns-8 c = let a = c .before .before .before .before .before .before .args in judged (parts (a .head) (a .xids .now) (a .marks .now) (a .keys .now) (a .tags .now) (a .identities .now) (a .columns .now)) (a .bytes .now) _ _ (c .before .before .a6 .given .1) _ (flagIn (a .head)) (c .before .before .before .before .place-of .ensures) refl _ (c .judge-stream-start .ensures (a .marks .now))
+returns-8 c = let a = c .before .before .before .before .before .before .args in judged (parts (a .head) (a .xids .now) (a .marks .now) (a .keys .now) (a .tags .now) (a .identities .now) (a .columns .now)) (a .bytes .now) _ _ (c .before .before .enum-told4 .given .1) _ (flagIn (a .head)) (c .before .before .before .before .place-of .ensures) refl _ (c .answer-of4 .ensures ∙ c .before .rule-logical2 .ensures)
 
 returns-9 : tie.Need-returns-9
-returns-9 c = let a = c .before .before .before .before .before .before .args in judged (parts (a .head) (a .xids .now) (a .marks .now) (a .keys .now) (a .tags .now) (a .identities .now) (a .columns .now)) (a .bytes .now) _ _ (c .before .before .enum-told3 .given .1) _ (flagIn (a .head)) (c .before .before .before .before .place-of .ensures) refl _ (c .answer-of4 .ensures ∙ c .before .rule-stream-stop .ensures)
+returns-9 c = let a = c .before .before .before .before .before .before .args in judged (parts (a .head) (a .xids .now) (a .marks .now) (a .keys .now) (a .tags .now) (a .identities .now) (a .columns .now)) (a .bytes .now) _ _ (c .before .before .a5 .given .1) _ (flagIn (a .head)) (c .before .before .before .before .place-of .ensures) refl _ (c .judge-stream-start .ensures (a .marks .now))
 
 returns-10 : tie.Need-returns-10
-returns-10 c = let a = c .before .before .before .before .before .before .args in judged (parts (a .head) (a .xids .now) (a .marks .now) (a .keys .now) (a .tags .now) (a .identities .now) (a .columns .now)) (a .bytes .now) _ _ (c .before .before .a7 .given .1) _ (flagIn (a .head)) (c .before .before .before .before .place-of .ensures) refl _ (c .judge-stream-end .ensures (a .marks .now))
+returns-10 c = let a = c .before .before .before .before .before .before .args in judged (parts (a .head) (a .xids .now) (a .marks .now) (a .keys .now) (a .tags .now) (a .identities .now) (a .columns .now)) (a .bytes .now) _ _ (c .before .before .enum-told5 .given .1) _ (flagIn (a .head)) (c .before .before .before .before .place-of .ensures) refl _ (c .answer-of5 .ensures ∙ c .before .rule-stream-stop .ensures)
 
 returns-11 : tie.Need-returns-11
-returns-11 c = let a = c .before .before .before .before .before .before .args in judged (parts (a .head) (a .xids .now) (a .marks .now) (a .keys .now) (a .tags .now) (a .identities .now) (a .columns .now)) (a .bytes .now) _ _ (c .before .before .a8 .given .1) _ (flagIn (a .head)) (c .before .before .before .before .place-of .ensures) refl _ (c .judge-stream-end2 .ensures (a .marks .now))
+returns-11 c = let a = c .before .before .before .before .before .before .args in judged (parts (a .head) (a .xids .now) (a .marks .now) (a .keys .now) (a .tags .now) (a .identities .now) (a .columns .now)) (a .bytes .now) _ _ (c .before .before .a6 .given .1) _ (flagIn (a .head)) (c .before .before .before .before .place-of .ensures) refl _ (c .judge-stream-end .ensures (a .marks .now))
+
+returns-12 : tie.Need-returns-12
+returns-12 c = let a = c .before .before .before .before .before .before .args in judged (parts (a .head) (a .xids .now) (a .marks .now) (a .keys .now) (a .tags .now) (a .identities .now) (a .columns .now)) (a .bytes .now) _ _ (c .before .before .a7 .given .1) _ (flagIn (a .head)) (c .before .before .before .before .place-of .ensures) refl _ (c .judge-stream-end2 .ensures (a .marks .now))
 
 pub judge-spec : {M : Type 1} → statement M
 judge-spec =
@@ -143,17 +155,20 @@ judge-spec =
     enum-told-2
     rule-neutral-requires
     answer-of-requires-2
-    enum-known-a-5
+    enum-told-3
     rule-logical-requires
     answer-of-requires-3
-    enum-known-a-6
-    judge-stream-start-requires
-    enum-told-3
-    rule-stream-stop-requires
+    enum-told-4
+    rule-logical-requires-2
     answer-of-requires-4
-    enum-known-a-7
+    enum-known-a-5
+    judge-stream-start-requires
+    enum-told-5
+    rule-stream-stop-requires
+    answer-of-requires-5
+    enum-known-a-6
     judge-stream-end-requires
-    enum-known-a-8
+    enum-known-a-7
     judge-stream-end-requires-2
     returns
     returns-2
@@ -165,4 +180,5 @@ judge-spec =
     returns-8
     returns-9
     returns-10
-    returns-11)
+    returns-11
+    returns-12)

@@ -54,17 +54,23 @@ enum-told-5 c = search needs
 head-at-requires-5 : tie.Need-head-at-requires-5
 head-at-requires-5 c κs = tt
 
+enum-told-6 : tie.Need-enum-told-6
+enum-told-6 c = search needs
+
+head-at-requires-6 : tie.Need-head-at-requires-6
+head-at-requires-6 c κs = tt
+
 enum-known-a-3 : tie.Need-enum-known-a-3
 enum-known-a-3 c = search needs
 
 apply-stream-start-requires : tie.Need-apply-stream-start-requires
 apply-stream-start-requires c κs = tt
 
-enum-told-6 : tie.Need-enum-told-6
-enum-told-6 c = search needs
+enum-told-7 : tie.Need-enum-told-7
+enum-told-7 c = search needs
 
-head-at-requires-6 : tie.Need-head-at-requires-6
-head-at-requires-6 c κs = tt
+head-at-requires-7 : tie.Need-head-at-requires-7
+head-at-requires-7 c κs = tt
 
 enum-known-a-4 : tie.Need-enum-known-a-4
 enum-known-a-4 c = search needs
@@ -100,16 +106,19 @@ returns-7 : tie.Need-returns-7
 returns-7 c = let a = c .before .before .before .before .before .args in λ xs. applied (parts (a .head) (a .xids .now) (a .marks .now) (a .keys .now) (a .tags .now) (a .identities .now) (a .columns .now)) xs _ _ (c .before .enum-told5 .given .1) _ _ (c .before .before .before .before .place-of .ensures) (c .before .before .before .flag-of .ensures) (a .tag) _ _ _ _ _ _ _ _ (c .head-at5 .ensures) refl refl
 
 returns-8 : tie.Need-returns-8
-returns-8 c = let a = c .before .before .before .before .before .before .before .before .args in λ xs. applied (parts (a .head) (a .xids .now) (a .marks .now) (a .keys .now) (a .tags .now) (a .identities .now) (a .columns .now)) xs _ _ (c .before .before .before .before .a3 .given .1) (placeIn (a .head)) (flagIn (a .head)) refl refl (a .tag) _ _ _ _ _ _ _ _ (c .apply-stream-start .ensures .0) (c .apply-stream-start .ensures .1) refl
+returns-8 c = let a = c .before .before .before .before .before .args in λ xs. applied (parts (a .head) (a .xids .now) (a .marks .now) (a .keys .now) (a .tags .now) (a .identities .now) (a .columns .now)) xs _ _ (c .before .enum-told6 .given .1) _ _ (c .before .before .before .before .place-of .ensures) (c .before .before .before .flag-of .ensures) (a .tag) _ _ _ _ _ _ _ _ (c .head-at6 .ensures) refl refl
 
 returns-9 : tie.Need-returns-9
-returns-9 c = let a = c .before .before .before .before .before .args in λ xs. applied (parts (a .head) (a .xids .now) (a .marks .now) (a .keys .now) (a .tags .now) (a .identities .now) (a .columns .now)) xs _ _ (c .before .enum-told6 .given .1) _ _ (c .before .before .before .before .place-of .ensures) (c .before .before .before .flag-of .ensures) (a .tag) _ _ _ _ _ _ _ _ (c .head-at6 .ensures) refl refl
+returns-9 c = let a = c .before .before .before .before .before .before .before .before .args in λ xs. applied (parts (a .head) (a .xids .now) (a .marks .now) (a .keys .now) (a .tags .now) (a .identities .now) (a .columns .now)) xs _ _ (c .before .before .before .before .a3 .given .1) (placeIn (a .head)) (flagIn (a .head)) refl refl (a .tag) _ _ _ _ _ _ _ _ (c .apply-stream-start .ensures .0) (c .apply-stream-start .ensures .1) refl
 
 returns-10 : tie.Need-returns-10
-returns-10 c = let a = c .before .before .before .before .before .before .before .before .before .before .before .before .args in λ xs. applied (parts (a .head) (a .xids .now) (a .marks .now) (a .keys .now) (a .tags .now) (a .identities .now) (a .columns .now)) xs _ _ (c .before .before .before .before .before .before .before .before .a4 .given .1) (placeIn (a .head)) (flagIn (a .head)) refl refl (a .tag) _ _ _ _ _ _ _ _ (c .apply-stream-commit .ensures .0) (c .apply-stream-commit .ensures .1) (c .apply-stream-commit .ensures .2)
+returns-10 c = let a = c .before .before .before .before .before .args in λ xs. applied (parts (a .head) (a .xids .now) (a .marks .now) (a .keys .now) (a .tags .now) (a .identities .now) (a .columns .now)) xs _ _ (c .before .enum-told7 .given .1) _ _ (c .before .before .before .before .place-of .ensures) (c .before .before .before .flag-of .ensures) (a .tag) _ _ _ _ _ _ _ _ (c .head-at7 .ensures) refl refl
 
 returns-11 : tie.Need-returns-11
-returns-11 c = let a = c .before .before .before .before .before .before .before .before .before .before .before .before .args in λ xs. applied (parts (a .head) (a .xids .now) (a .marks .now) (a .keys .now) (a .tags .now) (a .identities .now) (a .columns .now)) xs _ _ (c .before .before .before .before .before .before .before .before .a5 .given .1) (placeIn (a .head)) (flagIn (a .head)) refl refl (a .tag) _ _ _ _ _ _ _ _ (c .apply-stream-abort .ensures .0) (c .apply-stream-abort .ensures .1) (c .apply-stream-abort .ensures .2)
+returns-11 c = let a = c .before .before .before .before .before .before .before .before .before .before .before .before .args in λ xs. applied (parts (a .head) (a .xids .now) (a .marks .now) (a .keys .now) (a .tags .now) (a .identities .now) (a .columns .now)) xs _ _ (c .before .before .before .before .before .before .before .before .a4 .given .1) (placeIn (a .head)) (flagIn (a .head)) refl refl (a .tag) _ _ _ _ _ _ _ _ (c .apply-stream-commit .ensures .0) (c .apply-stream-commit .ensures .1) (c .apply-stream-commit .ensures .2)
+
+returns-12 : tie.Need-returns-12
+returns-12 c = let a = c .before .before .before .before .before .before .before .before .before .before .before .before .args in λ xs. applied (parts (a .head) (a .xids .now) (a .marks .now) (a .keys .now) (a .tags .now) (a .identities .now) (a .columns .now)) xs _ _ (c .before .before .before .before .before .before .before .before .a5 .given .1) (placeIn (a .head)) (flagIn (a .head)) refl refl (a .tag) _ _ _ _ _ _ _ _ (c .apply-stream-abort .ensures .0) (c .apply-stream-abort .ensures .1) (c .apply-stream-abort .ensures .2)
 
 pub apply-spec : {M : Type 1} → statement M
 apply-spec =
@@ -131,10 +140,12 @@ apply-spec =
     head-at-requires-4
     enum-told-5
     head-at-requires-5
-    enum-known-a-3
-    apply-stream-start-requires
     enum-told-6
     head-at-requires-6
+    enum-known-a-3
+    apply-stream-start-requires
+    enum-told-7
+    head-at-requires-7
     enum-known-a-4
     apply-stream-commit-requires
     enum-known-a-5
@@ -149,4 +160,5 @@ apply-spec =
     returns-8
     returns-9
     returns-10
-    returns-11)
+    returns-11
+    returns-12)
