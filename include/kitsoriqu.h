@@ -121,7 +121,8 @@ void kq_session_start_default(kq_session *session);
 
 /* Gives a session one message, with a tag of the caller's choice that an announcement (an accepted Relation) keeps.
  * 0: accepted; answer is 1 and its announcement's tag, replica identity and column count for an Insert, Update, Delete or Truncate (its
- * first relation's), and four zeros for any other kind. Else a refusal: answer is its offset and zeros, and the session is as it was. */
+ * first relation's), and four zeros for any other kind. Else a refusal: answer is its offset and zeros, and the session is as it was.
+ * A Message with flags 0 may stand anywhere, one with flags 1 (transactional) in a transaction or stream block, else KQ_PLACE. */
 #define KQ_ANSWER 4
 uint32_t kq_session_give(kq_session *session, const uint8_t *bytes, size_t len, uint64_t tag, uint64_t answer[KQ_ANSWER]);
 

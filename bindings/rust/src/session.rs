@@ -2,7 +2,8 @@ use crate::{ffi, Identity, Refusal};
 use std::fmt;
 
 /// A session judges messages in sequence: blocks match, a streamed transaction opens only when it is not open and closes only when it
-/// is, and every change lies inside a transaction and names an announcement that it may see, of the same shape.
+/// is, and every change lies inside a transaction and names an announcement that it may see, of the same shape. A logical message that is
+/// not transactional may stand anywhere.
 ///
 /// It has room for 256 live announcements and 16 open streamed transactions, inline: about 5 KB, and it allocates nothing.
 ///

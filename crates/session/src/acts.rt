@@ -157,7 +157,7 @@ pub fn logical(x: LogicalMessage) -> Act
     ensures { λ r. ⌜ ((xs : List ℕ) → eventIn r xs ≡ eventOf (Message.Message x) xs) ⌝ }
 {
     if x.flags == 1 {
-        Act::Logical
+        Act::Transactional
     } else {
         Act::Marker
     }

@@ -220,7 +220,7 @@ pub fn judge(
             judge_truncate(head, keys, tags, identities, columns, bytes, start, count)
         }
         Act::Neutral => rules::answer_of(rules::rule_neutral(p)),
-        Act::Logical => rules::answer_of(rules::rule_logical(p, true)),
+        Act::Transactional => rules::answer_of(rules::rule_logical(p, true)),
         Act::Marker => rules::answer_of(rules::rule_logical(p, false)),
         Act::StreamStart { xid, first } => judge_stream_start(p, xids, xid, first == 1),
         Act::StreamStop => rules::answer_of(rules::rule_stream_stop(p)),

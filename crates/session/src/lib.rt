@@ -109,7 +109,7 @@ struct Shape {
     columns: u64,
 }
 
-// A message of another kind. A Message is a logical one where it is transactional (flag 1), else a marker.
+// A message of another kind. A Message is transactional (flag 1) or a marker (flag 0).
 enum Act {
     Begin { lsn: u64, xid: u32 },
     Commit { lsn: u64 },
@@ -117,7 +117,7 @@ enum Act {
     Relation { oid: u32, shape: Shape },
     Truncate { count: u32, start: usize, xid: u64 },
     Neutral,
-    Logical,
+    Transactional,
     Marker,
     StreamStart { xid: u32, first: u64 },
     StreamStop,

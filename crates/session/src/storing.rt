@@ -197,7 +197,7 @@ pub fn apply<'a>(
         }
         Act::Truncate { .. } => apply_truncate(head, xids, marks),
         Act::Neutral => head_at(head, place, flagged, n),
-        Act::Logical => head_at(head, place, flagged, n),
+        Act::Transactional => head_at(head, place, flagged, n),
         Act::Marker => head_at(head, place, flagged, n),
         Act::StreamStart { xid, first } => apply_stream_start(head, xids, marks, xid, first),
         Act::StreamStop => head_at(head, Place::Idle, flagged, n),
