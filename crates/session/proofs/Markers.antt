@@ -9,11 +9,11 @@ use Rattle.session.specs.History.{Given, given, entry, History, place}
 use Rattle.session.specs.Rules.{rooms, judge, accepts, heard, hears, historyAfter, historyBy, answers, past, Start, versionOf}
 use Rattle.session.specs.State.{State, sorted}
 use Rattle.session.specs.Machine.{startOf}
-use Rattle.session.specs.Runs.{after}
+use Rattle.session.specs.Runs.{run, after}
 use Rattle.session.proofs.Lawful.{sorted-lawful}
 use Rattle.session.proofs.Agreement.{kept}
 use Rattle.session.proofs.Runs.{Agrees, says, layout-run}
-use Rattle.session.proofs.ListTheorem.{agrees-always}
+use Rattle.session.proofs.ListTheorem.{agrees-always, after-answers}
 
 -- the state that agrees with a history agrees with it after an M too
 module _ (v : Version) (s : State) (h : History) (a : Agrees s h) (b : Bool) (g : Given) (m : List Given) where
@@ -29,10 +29,12 @@ unfolding historyBy
 past-last v [] h xs g = refl
 past-last v (given ys t ∷ l) h xs g = past-last v l (historyAfter rooms h (hears v (place h) ys) (given ys t)) xs g
 
--- However the session starts, whatever the list `l` before it and the list `m` after it.
+-- However the session starts, whatever the list `l` before the M: the record that both leave answers every further list as the record that `l` leaves.
 pub marker-leaves : (start : Start) (l : List Given) (xs : List ℕ) (g : ℕ) (b : Bool) → hears (versionOf start) (place (past (versionOf start) [] l)) xs ≡ heard (Logical b)
-    → (m : List Given) → answers (versionOf start) (past (versionOf start) [] (l ++ given xs g ∷ [])) m ≡ answers (versionOf start) (past (versionOf start) [] l) m
+    → (m : List Given) → run (after (startOf start) (l ++ given xs g ∷ [])) m ≡ run (after (startOf start) l) m
 marker-leaves start l xs g b e m =
     let v = versionOf start in
     let h = past v [] l in
-    rw (past-last v l [] xs g, e) (marked v (says (after (startOf start) l)) h (agrees-always start l) b (given xs g) m (accepts (judge rooms h (Logical b))) refl)
+    after-answers start (l ++ given xs g ∷ []) m
+    ∙ rw (past-last v l [] xs g, e) (marked v (says (after (startOf start) l)) h (agrees-always start l) b (given xs g) m (accepts (judge rooms h (Logical b))) refl)
+    ∙ sym (after-answers start l m)

@@ -164,6 +164,11 @@ module _ (s : Session) (h : History) (a : Agrees (says s) h) (xs : List ℕ) (g 
       go p e = rw e (heard-follows (hears (versionFor s) (place h) xs) (hears-well (versionFor s) (place h) xs))
 
 -- A LIST
+pub version-after : (l : List Given) (s : Session) → versionFor (after s l) ≡ versionFor s
+unfolding after stepOf
+version-after [] s = refl
+version-after (given xs g ∷ l) s = version-after l (stepOf s xs g .session) ∙ version-stays s g (hears (versionFor s) (says s .place) xs)
+
 pub agree-run : (l : List Given) (s : Session) (h : History) → Agrees (says s) h → run s l ≡ answers (versionFor s) h l
 unfolding run answersBy
 agree-run [] s h a = refl

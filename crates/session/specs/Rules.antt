@@ -82,7 +82,7 @@ ruleStreamEnd p opened = test (isIdle p) 7 (test opened 8 answer.Accepted)
 abbrev pub ruleNeutral : Place → Answer
 ruleNeutral p = test (not (isIdle p)) 7 answer.Accepted
 
--- M (request 104): with flag 1, transactional, in a transaction or block, with flag 0 anywhere, else 7.
+-- M (request 104): with flag 0 anywhere; with flag 1, transactional, in a transaction or block, else 7.
 abbrev pub ruleLogical : Place → Bool → Answer
 ruleLogical p transactional = test (not (isIdle p) || not transactional) 7 answer.Accepted
 
