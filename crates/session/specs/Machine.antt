@@ -137,11 +137,15 @@ shows s = sightIn (view (partsOf s))
 abbrev pub stepped : Session → Answer → Stepped
 stepped s a = record { session = s; answer = a }
 
+-- the answer to an event, and the record that keeps it
+abbrev pub answerOf : Session → Event → Answer
+answerOf s e = answerIn (view (partsOf s)) e
+
+abbrev pub storedOf : Session → Event → ℕ → Session
+storedOf s e g = made (getD (s .head) 1 0) (written (partsOf s) (stateAfter (view (partsOf s)) e g))
+
 abbrev pub eventStep : Session → Event → ℕ → Stepped
-eventStep s e g =
-    let p = partsOf s in
-    let a = answerIn (view p) e in
-    stepped (cond (accepts a) (made (getD (s .head) 1 0) (written p (stateAfter (view p) e g))) s) a
+eventStep s e g = let a = answerOf s e in stepped (cond (accepts a) (storedOf s e g) s) a
 
 abbrev pub heardStep : Session → Heard → ℕ → Stepped
 heardStep s (unread n o) g = stepped s (answer.Refused n o)
