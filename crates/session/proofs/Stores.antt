@@ -22,13 +22,15 @@ use Rattle.session.specs.Events.{Event, Change, Tuple}
 use Rattle.session.specs.History.{inBlock, placeAfter}
 use Rattle.session.specs.Rules.{ruleChange, accepts, Heard, heardOf, hears}
 use Rattle.session.specs.State.{State, state, visibleIn, answerIn, flaggedAt, flagAfter, markedAt, streamsAfter, tableAfter, stateAfter}
-use Rattle.session.specs.Machine.{placeIn, flagIn, versionIn, headAt, Parts, parts, streamsOf, tableOf, view, written, sessionOf, headIn, wordsOf, partsOf, made, stepped, eventStep, heardStep, stepOf}
+use Rattle.session.specs.Machine.{placeIn, flagIn, versionIn, headAt, Parts, parts, streamsOf, tableOf, view, written, sessionOf, headIn, wordsOf, made, stepped, answerOf, storedOf, eventStep, heardStep, stepOf}
 use Rattle.session.specs.Acts.{tuplesOf, eventIn, heardIn}
 
 -- LOOK
-pub looked-is : (h : Head) (xs : List ℕ) (place : Place) (b : Bool) (r : Read) → place ≡ placeIn h → b ≡ inBlock place → r ≡ readMessage (versionIn h) b xs
-    → (n : Heard) → n ≡ heardOf r xs → n ≡ hears (versionIn h) (placeIn h) xs
-looked-is h xs place b r ep eb er n e = e ∙ ap (λ (x : Read). heardOf x xs) (er ∙ ap (λ (v : Bool). readMessage (versionIn h) v xs) (eb ∙ ap inBlock ep))
+pub looked-is : (w xs : List ℕ) (h : Head) (place : Place) (b : Bool) (r : Read) → h ≡ headIn w → place ≡ placeIn h → b ≡ inBlock place → r ≡ readMessage (versionIn h) b xs
+    → (n : Heard) → n ≡ heardOf r xs → n ≡ hears (versionIn (headIn w)) (placeIn (headIn w)) xs
+looked-is w xs h place b r eh ep eb er n e =
+    e ∙ ap (λ (x : Read). heardOf x xs) (er ∙ ap (λ (v : Bool). readMessage (versionIn h) v xs) (eb ∙ ap inBlock ep))
+    ∙ ap (λ (x : Head). hears (versionIn x) (placeIn x) xs) eh
 
 -- JUDGE: a change, by where the head stands
 pub change-judged : (h : Head) (t : Table) (o : ℕ) (ts : List Tuple) (p q : Place) → p ≡ placeIn h → p ≡ q
@@ -78,31 +80,36 @@ module _ (s : Parts) (xs : List ℕ) (a b : Act) (e : a ≡ b) (p : Place) (f : 
 abbrev under : Head → Session → Parts
 under h s = parts h (s .«stream_xids») (s .«stream_changed») (s .keys) (s .tags) (s .identities) (s .columns)
 
-module _ (s : Session) (h : Head) (eh : h ≡ headIn (s .head)) (e : Event) (g : ℕ) (a : Answer) (ea : a ≡ answerIn (view (under h s)) e) where
-  abbrev next : Session
-  next = made (getD (s .head) 1 0) (written (partsOf s) (stateAfter (view (partsOf s)) e g))
+module _ (s : Session) (h : Head) (eh : h ≡ headIn (s .head)) (e : Event) where
+  pub answer-is : (a : Answer) → a ≡ answerIn (view (under h s)) e → a ≡ answerOf s e
+  answer-is a ea = ea ∙ ap (λ (x : Head). answerIn (view (under x s)) e) eh
 
-  said : (b : Bool) → accepts a ≡ b → stepped (cond b next s) a ≡ eventStep s e g
-  said b w =
-      ap (λ (v : Bool). stepped (cond v next s) a) (sym w)
-      ∙ ap (λ (x : Answer). stepped (cond (accepts x) next s) x) (ea ∙ ap (λ (x : Head). answerIn (view (under x s)) e) eh)
+  -- the words of the new head, and the new arrays
+  pub stored-is : (g : ℕ) (n : Head) (ws xids marks keys tags identities columns : List ℕ) → ws ≡ wordsOf (getD (s .head) 1 0) n
+      → parts n xids marks keys tags identities columns ≡ written (under h s) (stateAfter (view (under h s)) e g)
+      → sessionOf ws xids marks keys tags identities columns ≡ storedOf s e g
+  stored-is g n ws xids marks keys tags identities columns ew q =
+      ap (λ (x : List ℕ). sessionOf x xids marks keys tags identities columns) ew
+      ∙ ap (made (getD (s .head) 1 0)) (q ∙ ap (λ (x : Head). written (under x s) (stateAfter (view (under x s)) e g)) eh)
+
+-- A STEP
+
+-- an event that is judged: the record that keeps it, or the record as it was
+module _ (s : Session) (e : Event) (g : ℕ) (a : Answer) (ea : a ≡ answerOf s e) where
+  said : (v : Bool) → accepts a ≡ v → stepped (cond v (storedOf s e g) s) a ≡ eventStep s e g
+  said v w =
+      ap (λ (x : Bool). stepped (cond x (storedOf s e g) s) a) (sym w) ∙ ap (λ (x : Answer). stepped (cond (accepts x) (storedOf s e g) s) x) ea
 
   pub refused-event : accepts a ≡ false → stepped s a ≡ eventStep s e g
   refused-event w = said false w
 
-  -- the words of the new head, and the new arrays
-  pub accepted-event : accepts a ≡ true → (n : Head) (ws xids marks keys tags identities columns : List ℕ) → ws ≡ wordsOf (getD (s .head) 1 0) n
-      → parts n xids marks keys tags identities columns ≡ written (under h s) (stateAfter (view (under h s)) e g)
-      → stepped (sessionOf ws xids marks keys tags identities columns) a ≡ eventStep s e g
-  accepted-event w n ws xids marks keys tags identities columns ew q =
-      ap (λ (x : List ℕ). stepped (sessionOf x xids marks keys tags identities columns) a) ew
-      ∙ ap (λ (p : Parts). stepped (made (getD (s .head) 1 0) p) a) (q ∙ ap (λ (x : Head). written (under x s) (stateAfter (view (under x s)) e g)) eh) ∙ said true w
+  pub accepted-event : accepts a ≡ true → (n : Session) → n ≡ storedOf s e g → stepped n a ≡ eventStep s e g
+  accepted-event w n q = ap (λ (x : Session). stepped x a) q ∙ said true w
 
--- A STEP
-module _ (s : Session) (xs : List ℕ) (g : ℕ) (h : Head) (eh : h ≡ headIn (s .head)) (l : Looked) (el : heardIn l xs ≡ hears (versionIn h) (placeIn h) xs) where
+module _ (s : Session) (xs : List ℕ) (g : ℕ) (l : Looked) (el : heardIn l xs ≡ hears (versionIn (headIn (s .head))) (placeIn (headIn (s .head))) xs) where
   step-is : heardStep s (heardIn l xs) g ≡ stepOf s xs g
   unfolding stepOf
-  step-is = ap (λ (x : Heard). heardStep s x g) (el ∙ ap (λ (x : Head). hears (versionIn x) (placeIn x) xs) eh)
+  step-is = ap (λ (x : Heard). heardStep s x g) el
 
   heard-is : (m : Looked) → l ≡ m → heardStep s (heardIn m xs) g ≡ stepOf s xs g
   heard-is m e = ap (λ (x : Looked). heardStep s (heardIn x xs) g) (sym e) ∙ step-is

@@ -3,11 +3,10 @@ ghost use mathlib.Core.List.{[]};
 ghost use lib.ListN.{getD};
 ghost use Prim.Native.Nat.{ℕ};
 ghost use Rattle.session.specs.Events.{Change};
-ghost use Rattle.session.specs.Rules.{hears, answers, named, unnamed};
-ghost use Rattle.session.specs.Machine.{placeIn, versionIn, sessionOf, stepped, eventStep, stepOf, startOf};
+ghost use Rattle.session.specs.Rules.{answers, named, unnamed};
+ghost use Rattle.session.specs.Machine.{sessionOf, stepped, eventStep, stepOf, startOf};
 ghost use Rattle.session.specs.Listed.{between, messagesIn, lastOr};
-ghost use Rattle.session.specs.Acts.{tuplesOf, heardIn};
-use message::Read;
+ghost use Rattle.session.specs.Acts.{tuplesOf};
 use message::Version;
 
 mod acts;
@@ -17,12 +16,13 @@ mod judging;
 mod rules;
 mod storing;
 
+pub mod stages;
+
 pub use asking::place_of;
 pub use asking::read_in;
 pub use asking::version_of;
 pub use asking::visible_in;
-use judging::judge;
-use storing::apply;
+pub use rules::accepted;
 
 // Where a session stands: idle, between Begin and Commit (with the Begin's final LSN), or in a stream block (of an xid).
 pub enum Place {
@@ -69,13 +69,13 @@ impl Head {
 // A session: the numbers of its head, in words, and the arrays of the catalog's tables, which alone knows what stands where in them.
 #[repr(C)]
 pub struct Session {
-    head: [u64; 6],
-    stream_xids: [u32; 16],
-    stream_changed: [u8; 16],
-    keys: [u64; 256],
-    tags: [u64; 256],
-    identities: [u8; 256],
-    columns: [u16; 256],
+    pub head: [u64; 6],
+    pub stream_xids: [u32; 16],
+    pub stream_changed: [u8; 16],
+    pub keys: [u64; 256],
+    pub tags: [u64; 256],
+    pub identities: [u8; 256],
+    pub columns: [u16; 256],
 }
 
 // A session after a message, and the message's answer.
@@ -87,11 +87,11 @@ pub struct Stepped {
 // What the session looks at in a message is in whole words: smaller numbers would be packed and unpacked with those of other kinds.
 
 // The tuples of an Insert, Update or Delete, each with its letter and column count. An old one with the letter 0 is none.
-struct Tuples {
-    old: u64,
-    old_count: u64,
-    letter: u64,
-    count: u64,
+pub struct Tuples {
+    pub old: u64,
+    pub old_count: u64,
+    pub letter: u64,
+    pub count: u64,
 }
 
 // The letters of a change's tuples: `N`, the new row; `K`, the key; `O`, the whole old row.
@@ -104,13 +104,13 @@ impl Tuples {
 }
 
 // What a Relation announces of its columns.
-struct Shape {
-    identity: u64,
-    columns: u64,
+pub struct Shape {
+    pub identity: u64,
+    pub columns: u64,
 }
 
 // A message of another kind. A Message is transactional (flag 1) or a marker (flag 0).
-enum Act {
+pub enum Act {
     Begin { lsn: u64, xid: u32 },
     Commit { lsn: u64 },
     Origin,
@@ -127,26 +127,10 @@ enum Act {
 
 // What is heard of bytes: reading's refusal, an Insert, Update or Delete, or a message of another kind. Most messages are changes, and a
 // path of their own is shorter.
-enum Looked {
+pub enum Looked {
     Unread { number: u64, offset: usize },
     Change { oid: u32, xid: u64, tuples: Tuples },
     Other(Act),
-}
-
-// LOOK: what is heard of bytes, where the head stands.
-fn look(head: Head, bytes: &[u8]) -> Looked
-    ensures { λ r. ⌜ heardIn r (now (bytes .entry)) ≡ hears (versionIn head) (placeIn head) (now (bytes .entry)) ⌝ }
-{
-    let place = rules::place_of(head);
-    let number = head.version;
-    let read = reader::read_message(Version { number }, rules::in_block(place), bytes);
-    match read {
-        Read::Refused(r) => Looked::Unread {
-            number: acts::wide8(r.number),
-            offset: r.offset,
-        },
-        Read::Message(m) => acts::looked_at(m, bytes),
-    }
 }
 
 // Gives a session a change: judge and, where that accepts, apply.
@@ -163,18 +147,15 @@ fn step_change<'a>(
 ) -> Answer
     ensures { λ r. ⌜ ((x tag : ℕ) → stepped (sessionOf (now (head .exit)) (now (xids .entry)) (now (marks .exit)) (now (keys .entry)) (now (tags .entry)) (now (identities .entry)) (now (columns .entry))) r ≡ eventStep (sessionOf (now (head .entry)) (now (xids .entry)) (now (marks .entry)) (now (keys .entry)) (now (tags .entry)) (now (identities .entry)) (now (columns .entry))) (Change x oid (tuplesOf tuples)) tag) ⌝ }
 {
-    let now = heads::head_in(head);
-    let answer = judging::judge_change(now, keys, tags, identities, columns, oid, tuples);
+    let answer = stages::judge_change(head, keys, tags, identities, columns, oid, tuples);
     if rules::accepted(answer) {
-        let next = storing::apply_change(now, xids, marks);
-        let version = head[1];
-        *head = heads::words_of(next, version);
+        stages::apply_change(head, xids, marks);
     }
     answer
 }
 
 // Gives a session one message, its bytes and a tag: look, judge and, where that accepts, apply. Head and arrays are lent; the head's
-// numbers are loaded where they are needed and stored where they change. This is the one place where a step is coded.
+// numbers are loaded where they are needed and stored where they change.
 fn step_lent<'a>(
     head: &'a mut [u64; 6],
     xids: &'a mut [u32; 16],
@@ -188,7 +169,7 @@ fn step_lent<'a>(
 ) -> Answer
     ensures { λ r. ⌜ stepped (sessionOf (now (head .exit)) (now (xids .exit)) (now (marks .exit)) (now (keys .exit)) (now (tags .exit)) (now (identities .exit)) (now (columns .exit))) r ≡ stepOf (sessionOf (now (head .entry)) (now (xids .entry)) (now (marks .entry)) (now (keys .entry)) (now (tags .entry)) (now (identities .entry)) (now (columns .entry))) (now (bytes .entry)) tag ⌝ }
 {
-    let looked = look(heads::head_in(head), bytes);
+    let looked = stages::look(head, bytes);
     match looked {
         Looked::Unread { number, offset } => Answer::Refused {
             number: acts::narrow8(number),
@@ -198,12 +179,11 @@ fn step_lent<'a>(
             step_change(head, xids, marks, keys, tags, identities, columns, oid, t)
         }
         Looked::Other(a) => {
-            let now = heads::head_in(head);
-            let answer = judge(now, xids, marks, keys, tags, identities, columns, a, bytes);
+            let answer = stages::judge_act(
+                head, xids, marks, keys, tags, identities, columns, a, bytes,
+            );
             if rules::accepted(answer) {
-                let next = apply(now, xids, marks, keys, tags, identities, columns, a, tag);
-                let version = head[1];
-                *head = heads::words_of(next, version);
+                stages::apply_act(head, xids, marks, keys, tags, identities, columns, a, tag);
             }
             answer
         }
