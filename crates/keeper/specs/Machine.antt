@@ -47,6 +47,10 @@ spaceIn b n d = record { room = length (b .buffer); held = b .held; output = n; 
 abbrev pub reply : Answer → ℕ → Reply
 reply a released = record { answer = a; released = released }
 
+-- only an accepted message releases
+abbrev pub replied : Answer → ℕ → Reply
+replied a released = reply a (cond (accepts a) released 0)
+
 -- A STEP: the session after it, and what the message got and left
 pub record After : Type 0 where
   pub session : Session

@@ -153,13 +153,13 @@ pub fn remove(buffer: &mut [u8], held: usize, any: bool, xid: u32, sub: u32) -> 
 }
 
 // A record behind what is held, where there is room: how many bytes are held then.
-pub fn append(buffer: &mut [u8], held: usize, top: u32, own: u32, bytes: &[u8]) -> usize
+pub fn append(buffer: &mut [u8], held: usize, top: u32, own: u64, bytes: &[u8]) -> usize
     requires { ⌜ held + (14 + length (now bytes)) ≤ length (now buffer) ⌝ }
     ensures { λ r. ⌜ hold (now (buffer .exit)) r ≡ hold (sets (now (buffer .entry)) held (recordOf (kept top own (now (bytes .entry))))) (held + (14 + length (now (bytes .entry)))) ⌝ }
 {
     copying::lay_number(&mut buffer[held..], 2, MARK as u64);
     copying::lay_number(&mut buffer[held + 2..], 4, top as u64);
-    copying::lay_number(&mut buffer[held + 6..], 4, own as u64);
+    copying::lay_number(&mut buffer[held + 6..], 4, own);
     copying::lay_number(&mut buffer[held + 10..], 4, bytes.len() as u64);
     copying::lay_part(&mut buffer[held + 14..], bytes);
     held + 14 + bytes.len()

@@ -38,8 +38,10 @@ impl Refusal {
     pub const ANNOUNCEMENTS: u8 = 11;
     // No room for a streamed transaction.
     pub const STREAMS: u8 = 12;
-    // The output is shorter than the message to be written.
+    // The output is shorter than the message to be written, or than the records to be released.
     pub const OUTPUT: u8 = 13;
+    // No room in the keeper's buffer for a change.
+    pub const KEEPER: u8 = 14;
 }
 
 // Where reading stands, or the refusal that stopped it.
