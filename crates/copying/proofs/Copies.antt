@@ -111,7 +111,7 @@ cut-end l xs i j n h k z e q =
 -- THE TAIL
 
 -- a tail has the room that is left
-pub tail-room : (l : List ℕ) (at n : ℕ) → at + n ≤ length l → n ≤ length (take (length l - at) (drop at l))
+tail-room : (l : List ℕ) (at n : ℕ) → at + n ≤ length l → n ≤ length (take (length l - at) (drop at l))
 tail-room l at n h =
     let k : length (drop at l) ≤ length l - at = simp length-drop (omega arith) in
     rw (take-all (length l - at) (drop at l) k) (simp length-drop (omega arith))
@@ -129,7 +129,7 @@ set-in-tail l at xs h p e =
 -- WITHIN ONE BUFFER
 
 -- what is stored before a place leaves what is from there on
-drop-sets : (k : ℕ) (l : List ℕ) (i : ℕ) (xs : List ℕ) → i + length xs ≤ k → drop k (sets l i xs) ≡ drop k l
+pub drop-sets : (k : ℕ) (l : List ℕ) (i : ℕ) (xs : List ℕ) → i + length xs ≤ k → drop k (sets l i xs) ≡ drop k l
 drop-sets k l i [] h = refl
 drop-sets k l i (x ∷ xs) h = drop-sets k (set l i x) (suc i) xs (omega arith) ∙ drop-set-lt k l i x (omega arith)
 
@@ -164,3 +164,6 @@ laid-in-tail l at xs h p e =
 
 pub moved-fits : (l : List ℕ) (to from n : ℕ) → to ≤ from → from + n ≤ length l → movedDown l to from n ≡ sets l to (cut l from n)
 moved-fits l to from n h k = rw (le-leb to from h, le-leb (from + n) (length l) k)
+
+pub moved-not : (l : List ℕ) (to from n : ℕ) → to ≤ from → length l < from + n → movedDown l to from n ≡ l
+moved-not l to from n h k = rw (le-leb to from h, lt-leb (from + n) (length l) k)

@@ -14,10 +14,16 @@ same-length : tie.Need-same-length
 same-length c = search needs
 
 returns : tie.Need-returns
-returns c = let a = c .before .before .before .before .before .before .args in let size = length-digits (a .width) (a .value) in c .before .before .lay-digits .ensures ∙ sym (laid-fits (a .tail .now) (digits (a .width) (a .value)) (omega arith))
+returns c =
+    let a = c .before .before .before .before .before .before .args in
+    let size = length-digits (a .width) (a .value) in
+    c .before .before .lay-digits .ensures ∙ sym (laid-fits (a .tail .now) (digits (a .width) (a .value)) (omega arith))
 
 returns-2 : tie.Need-returns-2
-returns-2 c = let a = c .before .before .args in let size = length-digits (a .width) (a .value) in sym (laid-not (a .tail .now) (digits (a .width) (a .value)) (omega arith))
+returns-2 c =
+    let a = c .before .before .args in
+    let size = length-digits (a .width) (a .value) in
+    sym (laid-not (a .tail .now) (digits (a .width) (a .value)) (omega arith))
 
 pub lay-number-spec : {M : Type 1} → statement M
 lay-number-spec =

@@ -5,7 +5,9 @@ use Rattle.copying.proofs.lay_part.Statement.{statement}
 use Rattle.copying.proofs.lay_part.Tie as tie
 
 returns : tie.Need-returns
-returns c = sym (laid-not (c .before .before .before .args .tail .now) (c .before .before .before .args .part .now) (c .if1 .taken))
+returns c =
+    let a = c .before .before .before .args in
+    sym (laid-not (a .tail .now) (a .part .now) (c .if1 .taken))
 
 lay-bytes-requires : tie.Need-lay-bytes-requires
 lay-bytes-requires c κs = search needs
@@ -20,19 +22,25 @@ same-length : tie.Need-same-length
 same-length c = search needs
 
 returns-2 : tie.Need-returns-2
-returns-2 c = c .before .before .lay-bytes .ensures ∙ sym (laid-fits (c .before .before .before .before .before .before .before .before .args .tail .now) (c .before .before .before .before .before .before .before .before .args .part .now) (c .before .before .before .before .before .if1 .left))
+returns-2 c =
+    let a = c .before .before .before .before .before .before .before .before .args in
+    c .before .before .lay-bytes .ensures ∙ sym (laid-fits (a .tail .now) (a .part .now) (c .before .before .before .before .before .if1 .left))
 
 same-length-2 : tie.Need-same-length-2
 same-length-2 c = search needs
 
 returns-3 : tie.Need-returns-3
-returns-3 c = c .before .before .lay-blocks .ensures ∙ sym (laid-fits (c .before .before .before .before .before .before .before .before .before .args .tail .now) (c .before .before .before .before .before .before .before .before .before .args .part .now) (c .before .before .before .before .before .before .if1 .left))
+returns-3 c =
+    let a = c .before .before .before .before .before .before .before .before .before .args in
+    c .before .before .lay-blocks .ensures ∙ sym (laid-fits (a .tail .now) (a .part .now) (c .before .before .before .before .before .before .if1 .left))
 
 same-length-3 : tie.Need-same-length-3
 same-length-3 c = search needs
 
 returns-4 : tie.Need-returns-4
-returns-4 c = c .before .before .lay-blocks2 .ensures ∙ sym (laid-fits (c .before .before .before .before .before .before .before .before .before .args .tail .now) (c .before .before .before .before .before .before .before .before .before .args .part .now) (c .before .before .before .before .before .before .if1 .left))
+returns-4 c =
+    let a = c .before .before .before .before .before .before .before .before .before .args in
+    c .before .before .lay-blocks2 .ensures ∙ sym (laid-fits (a .tail .now) (a .part .now) (c .before .before .before .before .before .before .if1 .left))
 
 pub lay-part-spec : {M : Type 1} → statement M
 lay-part-spec =

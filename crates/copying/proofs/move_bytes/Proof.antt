@@ -36,20 +36,22 @@ loop-less : tie.Need-loop-less Inv-loop μ-loop
 loop-less c = omega arith
 
 loop-again : tie.Need-loop-again Inv-loop μ-loop
-loop-again c = 
+loop-again c =
     let a = c .before .before .before .args in
     let l = c .before .before .loop in
     let one = cut-one (l .buffer) (a .from + l .i) (omega arith) in (
       omega arith,
       simp length-set (l .inv .1),
-      move-turn (a .buffer .now) (a .to) (a .from) (l .i) 1 (l .i + 1) (c .before .before .before .pre .0) (omega arith) refl (l .inv .2) (rw one),
+      move-turn (a .buffer .now) (a .to) (a .from) (l .i) 1 (l .i + 1) (omega arith) (omega arith) refl (l .inv .2) (rw one),
     )
 
 same-length : tie.Need-same-length Inv-loop μ-loop
 same-length c = c .before .loop .inv .1
 
 returns : tie.Need-returns Inv-loop μ-loop
-returns c = let full : c .before .loop .i ≡ c .before .before .args .n = omega arith in rw full at (c .before .loop .inv .2)
+returns c =
+    let full : c .before .loop .i ≡ c .before .before .args .n = omega arith in
+    rw full at (c .before .loop .inv .2)
 
 pub move-bytes-spec : {M : Type 1} → statement M
 move-bytes-spec =

@@ -1,30 +1,35 @@
-use Prim.Native.Nat.{_+_, _*_, _/_, _-_}
+use Prim.Native.Nat.{_*_, _/_, _-_}
 use mathlib.Core.Path.{sym, _∙_}
 use native.Mathlib.Omega.{arith}
 use borrow.Author.Needs.{needs}
-use borrow.Author.Tests.{le-leb, lt-leb}
-use lib.ListN.{length}
-use Rattle.copying.proofs.Copies.{move-turn, moved-fits}
+use borrow.Author.Tests.{lt-leb}
+use Rattle.copying.proofs.Copies.{move-turn, moved-fits, moved-not}
 use Rattle.copying.proofs.move_down.Statement.{statement}
 use Rattle.copying.proofs.move_down.Tie as tie
 
 returns : tie.Need-returns
-returns c = sym (rw (lt-leb (c .before .before .args .to) (c .before .before .args .from) (c .if1 .taken)))
+returns c =
+    let a = c .before .before .args in
+    sym (rw (lt-leb (a .to) (a .from) (c .if1 .taken)))
 
 returns-2 : tie.Need-returns-2
-returns-2 c = sym (rw (le-leb (c .before .before .before .args .to) (c .before .before .before .args .from) (c .before .if1 .left), lt-leb (c .before .before .before .args .from + c .before .before .before .args .n) (length (c .before .before .before .args .buffer .now)) (omega arith)))
+returns-2 c =
+    let a = c .before .before .before .args in
+    sym (moved-not (a .buffer .now) (a .to) (a .from) (a .n) (omega arith) (omega arith))
 
 sub-if3 : tie.Need-sub-if3
 sub-if3 c = search needs
 
 returns-3 : tie.Need-returns-3
-returns-3 c = sym (rw (le-leb (c .before .before .before .before .args .to) (c .before .before .before .before .args .from) (c .before .before .if1 .left), lt-leb (c .before .before .before .before .args .from + c .before .before .before .before .args .n) (length (c .before .before .before .before .args .buffer .now)) (omega arith)))
+returns-3 c =
+    let a = c .before .before .before .before .args in
+    sym (moved-not (a .buffer .now) (a .to) (a .from) (a .n) (omega arith) (omega arith))
 
 mul-done : tie.Need-mul-done
 mul-done c = search needs
 
 move-eights-requires : tie.Need-move-eights-requires
-move-eights-requires c κs = search needs
+move-eights-requires c κs = (omega arith, omega arith)
 
 add-move-bytes : tie.Need-add-move-bytes
 add-move-bytes c = search needs
@@ -36,18 +41,19 @@ sub-move-bytes : tie.Need-sub-move-bytes
 sub-move-bytes c = search needs
 
 move-bytes-requires : tie.Need-move-bytes-requires
-move-bytes-requires c κs = search needs
+move-bytes-requires c κs = (omega arith, omega arith)
 
 same-length : tie.Need-same-length
 same-length c = search needs
 
 returns-4 : tie.Need-returns-4
-returns-4 c = 
+returns-4 c =
     let a = c .before .before .before .before .before .before .before .before .before .before .before .before .args in
     let l = a .buffer .now in
     let done = 8 * (a .n / 8) in
-    move-turn l (a .to) (a .from) done (a .n - done) (a .n) (omega arith) (omega arith) (omega arith) (c .before .before .before .before .before .before .move-eights .ensures)
-    (c .before .before .move-bytes .ensures) ∙ sym (moved-fits l (a .to) (a .from) (a .n) (omega arith) (omega arith))
+    let first = c .before .before .before .before .before .before .move-eights .ensures in
+    let both = move-turn l (a .to) (a .from) done (a .n - done) (a .n) (omega arith) (omega arith) (omega arith) first (c .before .before .move-bytes .ensures) in
+    both ∙ sym (moved-fits l (a .to) (a .from) (a .n) (omega arith) (omega arith))
 
 pub move-down-spec : {M : Type 1} → statement M
 move-down-spec =

@@ -52,22 +52,25 @@ loop-less : tie.Need-loop-less Inv-loop μ-loop
 loop-less c = omega arith
 
 loop-again : tie.Need-loop-again Inv-loop μ-loop
-loop-again c = 
+loop-again c =
     let a = c .before .before .before .before .before .before .before .before .before .args in
     let l = c .before .before .before .before .before .before .before .loop in
     let at = a .to + 8 * l .k in
     let eight = cut (l .buffer) (a .from + 8 * l .k) 8 in
-    let stored = set-in-tail (l .buffer) at eight (omega arith) (c .before .before .before .before .eight-at .ensures) (c .before .before .lay-digits .ensures) in (
+    let loaded = c .before .before .before .before .eight-at .ensures in
+    let stored = set-in-tail (l .buffer) at eight (omega arith) loaded (c .before .before .lay-digits .ensures) in (
       omega arith,
       ap length stored ∙ length-sets (l .buffer) at eight ∙ l .inv .1,
-      move-turn (a .buffer .now) (a .to) (a .from) (8 * l .k) 8 (8 * (l .k + 1)) (c .before .before .before .before .before .before .before .before .before .pre .0) (omega arith) (omega arith) (l .inv .2) stored,
+      move-turn (a .buffer .now) (a .to) (a .from) (8 * l .k) 8 (8 * (l .k + 1)) (omega arith) (omega arith) (omega arith) (l .inv .2) stored,
     )
 
 same-length : tie.Need-same-length Inv-loop μ-loop
 same-length c = c .before .loop .inv .1
 
 returns : tie.Need-returns Inv-loop μ-loop
-returns c = let full : c .before .loop .k ≡ c .before .before .before .args .eights = omega arith in rw full at (c .before .loop .inv .2)
+returns c =
+    let full : c .before .loop .k ≡ c .before .before .before .args .eights = omega arith in
+    rw full at (c .before .loop .inv .2)
 
 pub move-eights-spec : {M : Type 1} → statement M
 move-eights-spec =
