@@ -64,10 +64,11 @@ fn is_chosen(any: bool, xid: u32, sub: u32, r: Header) -> bool
     if !r.whole {
         return false;
     }
-    if !any {
-        if r.own != sub {
-            return false;
-        }
+    if any {
+        return r.top == xid;
+    }
+    if r.own != sub {
+        return false;
     }
     r.top == xid
 }
@@ -103,10 +104,12 @@ fn pack(buffer: &mut [u8], to: usize, from: usize, size: usize) -> usize
     requires { ⌜ (to ≤ from) × (from + size ≤ length (now buffer)) ⌝ }
     ensures { λ r. ⌜ hold (now (buffer .exit)) r ≡ hold (sets (now (buffer .entry)) to (take size (drop from (now (buffer .entry))))) (to + size) ⌝ }
 {
-    if to < from {
-        copying::move_down(buffer, to, from, size);
+    let end = to + size;
+    if from <= to {
+        return end;
     }
-    to + size
+    copying::move_down(buffer, to, from, size);
+    end
 }
 
 // Moves the records of a transaction to the start of an output that has room for them, and closes the gaps: how many bytes are held then.

@@ -1,0 +1,3 @@
+pub mod Tmp
+pub mod Pieces
+pub mod Loops
