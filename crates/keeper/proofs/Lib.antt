@@ -1,3 +1,2 @@
-pub mod Tmp
 pub mod Pieces
 pub mod Loops

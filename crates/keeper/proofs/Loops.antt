@@ -5,13 +5,13 @@ use mathlib.Core.Bool.{Bool, true, false, cond}
 use mathlib.Core.Path.{_≡_, refl, sym, _∙_, ap, ap₂}
 use native.Mathlib.Omega.{arith}
 use borrow.Rule.Slice.PartMut.{midOf, putMid}
-use lib.ListN.{length, take, drop, set, length-append, length-drop}
-use lib.Seq.{take-nil, take-take, drop-drop, length-take-le, drop-set-lt, sets, sets-eq, length-sets}
+use lib.ListN.{length, take, drop, length-append, length-drop}
+use lib.Seq.{take-nil, take-take, drop-drop, length-take-le, sets, sets-eq, length-sets}
 use Rattle.copying.specs.Copies.{laidIn}
+use Rattle.copying.proofs.Copies.{sets-append, drop-sets, laid-in-tail}
 use Rattle.keeper.specs.declared.Header.{Header}
 use Rattle.keeper.specs.Rules.{laid}
 use Rattle.keeper.specs.Records.{headerOf, passed, piecesIn, Hold, hold}
-use Rattle.keeper.proofs.Tmp.{laid-fits, sets-append, tail-room, set-in-tail}
 use Rattle.keeper.proofs.Pieces.{size-le, size-some, pieces-none, pieces-next}
 
 -- LISTS
@@ -22,18 +22,8 @@ drop-take (suc z) zero l = let e : 0 - suc z ≡ 0 = omega arith in rw e
 drop-take (suc z) (suc n) [] = sym (take-nil (suc n - suc z))
 drop-take (suc z) (suc n) (x ∷ l) = let e : suc n - suc z ≡ n - z = omega arith in rw e (drop-take z n l)
 
-drop-sets : (k : ℕ) (l : List ℕ) (i : ℕ) (xs : List ℕ) → i + length xs ≤ k → drop k (sets l i xs) ≡ drop k l
-drop-sets k l i [] h = refl
-drop-sets k l i (x ∷ xs) h = drop-sets k (set l i x) (suc i) xs (omega arith) ∙ drop-set-lt k l i x (omega arith)
-
 drop-more : (z k : ℕ) (l m : List ℕ) → drop k l ≡ drop k m → drop (k + z) l ≡ drop (k + z) m
 drop-more z k l m e = sym (drop-drop z k l) ∙ ap (drop z) e ∙ drop-drop z k m
-
--- what a callee laid at the front of the tail from `at`
-pub laid-at : (l : List ℕ) (at : ℕ) (xs : List ℕ) {m : List ℕ} → at + length xs ≤ length l → m ≡ laidIn (midOf at (length l - at) l) xs
-    → putMid at (length l - at) l m ≡ sets l at xs
-laid-at l at xs h e =
-    set-in-tail l at xs (omega arith) refl (e ∙ laid-fits (midOf at (length l - at) l) xs (tail-room l at (length xs) h))
 
 -- what is left of a buffer from `at` to `end`
 abbrev pub rest : List ℕ → ℕ → ℕ → List ℕ
@@ -165,7 +155,7 @@ module _ {l : List ℕ} {end at : ℕ} {r : Header} (t : Turn l end at r) where
         let k = count-pass (c .count) in
         let s = part-length in
         let long = c .long in
-        copy-pass c (laid-at out n (take (r .size) (drop at l)) (omega arith) (f ∙ rw (z, p .ahead)))
+        copy-pass c (laid-in-tail out n (take (r .size) (drop at l)) (omega arith) refl (f ∙ rw (z, p .ahead)))
 
     pub pack-pass :
         {whole cur m : List ℕ} {to n : ℕ} → Packing q l end whole cur to at → hold m n ≡ hold (sets cur to (take (r .size) (drop at cur))) (to + r .size)

@@ -1,7 +1,7 @@
 -- `keeper::records::append` meets its contract. Assumes nothing.
 use Prim.Native.Nat.{ℕ, _+_, _≤_, _-_}
 use native.Mathlib.Omega.{arith}
-use mathlib.Core.Path.{_≡_, _∙_, ap, ap₂}
+use mathlib.Core.Path.{_≡_, refl, _∙_, ap, ap₂}
 use mathlib.Core.List.{List, _++_, append-assoc}
 use lib.ListN.{length, length-append}
 use lib.Seq.{sets, length-sets}
@@ -12,8 +12,7 @@ use Rattle.message.proofs.Judged.{length-digits}
 use Rattle.copying.specs.Copies.{laidIn}
 use Rattle.keeper.specs.Rules.{kept, recordOf}
 use Rattle.keeper.specs.Records.{hold}
-use Rattle.keeper.proofs.Tmp.{sets-append}
-use Rattle.keeper.proofs.Loops.{laid-at}
+use Rattle.copying.proofs.Copies.{sets-append, laid-in-tail}
 use Rattle.keeper.proofs.records.append.Statement.{statement}
 use Rattle.keeper.proofs.records.append.Tie as tie
 
@@ -23,7 +22,7 @@ laid-next :
     → m ≡ laidIn (midOf at (length b - at) b) ys → putMid at (length b - at) b m ≡ sets l i (xs ++ ys)
 laid-next l i xs ys at {b} e z h f =
     let n : length b ≡ length l = ap length e ∙ length-sets l i xs in
-    laid-at b at ys (omega arith) f ∙ rw e (sets-append l i xs ys at z)
+    laid-in-tail b at ys (omega arith) refl f ∙ rw e (sets-append l i xs ys at z)
 
 record-is : (top own : ℕ) (xs : List ℕ) → digits 2 0xC34D ++ digits 4 top ++ digits 4 own ++ digits 4 (length xs) ++ xs ≡ recordOf (kept top own xs)
 unfolding recordOf digits
@@ -123,7 +122,7 @@ returns c =
     let o = digits 4 (a .own) in
     let n = digits 4 (length (a .bytes .now)) in
     let h = c .before .before .before .before .before .before .before .before .before .before .before .before .before .before .before .before .before .before .before .before .before .before .pre in
-    let e₁ = laid-at l i m (simp (length-append, length-digits) (omega arith)) (c .before .before .before .before .before .before .before .before .before .before .before .before .before .before .before .before .before .before .lay-number .ensures) in
+    let e₁ = laid-in-tail l i m (simp (length-append, length-digits) (omega arith)) refl (c .before .before .before .before .before .before .before .before .before .before .before .before .before .before .before .before .before .before .lay-number .ensures) in
     let e₂ = laid-next l i m t (i + 2) e₁ (simp (length-append, length-digits) (omega arith)) (simp (length-append, length-digits) (omega arith)) (c .before .before .before .before .before .before .before .before .before .before .before .before .before .before .lay-number2 .ensures) in
     let e₃ = laid-next l i (m ++ t) o (i + 6) e₂ (simp (length-append, length-digits) (omega arith)) (simp (length-append, length-digits) (omega arith)) (c .before .before .before .before .before .before .before .before .before .before .lay-number3 .ensures) in
     let e₄ = laid-next l i (m ++ t ++ o) n (i + 10) e₃ (simp (length-append, length-digits) (omega arith)) (simp (length-append, length-digits) (omega arith)) (c .before .before .before .before .before .before .lay-number4 .ensures) in

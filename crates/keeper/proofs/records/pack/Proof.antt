@@ -7,7 +7,7 @@ use lib.ListN.{length, take, drop, length-drop, take-append-drop}
 use lib.Seq.{length-take-le, take-add, sets, sets-eq}
 use borrow.Author.Needs.{needs}
 use Rattle.keeper.specs.Records.{hold}
-use Rattle.keeper.proofs.Tmp.{moved-fits}
+use Rattle.copying.proofs.Copies.{moved-fits}
 use Rattle.keeper.proofs.records.pack.Statement.{statement}
 use Rattle.keeper.proofs.records.pack.Tie as tie
 
