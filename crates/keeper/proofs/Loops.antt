@@ -1,7 +1,7 @@
 -- The turns of the loops over a buffer's pieces. Assumes nothing.
 use Prim.Native.Nat.{ℕ, zero, suc, _+_, _-_, _<_, _≤_}
 use mathlib.Core.List.{List, [], _∷_, _++_}
-use mathlib.Core.Bool.{Bool, true, false, cond}
+use mathlib.Core.Bool.{Bool, true, false}
 use mathlib.Core.Path.{_≡_, refl, sym, _∙_, ap, ap₂}
 use native.Mathlib.Omega.{arith}
 use borrow.Rule.Slice.PartMut.{midOf, putMid}
@@ -127,10 +127,11 @@ module _ {l : List ℕ} {end at : ℕ} {r : Header} (t : Turn l end at r) where
   picks-skip : (q : Header → Bool) → q r ≡ false → picks q l end at ≡ picks q l end (at + r .size)
   picks-skip q e = next q ∙ rw e
 
-  module _ {q : Header → Bool} (e : q r ≡ true) where
+  -- it passes
+  module _ {q : Header → Bool} {v : Bool} (w : v ≡ q r) (e : v ≡ true) where
     pub count-pass : {whole n : ℕ} → Counting q l end whole n at → Counting q l end whole (n + r .size) (at + r .size)
     count-pass c =
-        let k = ap length (picks-pass q e) in
+        let k = ap length (picks-pass q (sym w ∙ e)) in
         let a = length-append (take (r .size) (drop at l)) (picks q l end (at + r .size)) in
         let s = part-length in
         let g = goes in
@@ -143,19 +144,19 @@ module _ {l : List ℕ} {end at : ℕ} {r : Header} (t : Turn l end at r) where
       stores =
           ap (λ (x : List ℕ). sets x (n + r .size) (picks q l end (at + r .size))) f
           ∙ sets-append out n (take (r .size) (drop at l)) (picks q l end (at + r .size)) (n + r .size) (let s = part-length in omega arith)
-          ∙ ap (sets out n) (sym (picks-pass q e)) ∙ c .stores;
+          ∙ ap (sets out n) (sym (picks-pass q (sym w ∙ e))) ∙ c .stores;
     }
 
     -- it was laid in the output's tail, from a buffer in which other pieces are packed
     pub copy-laid :
         {whole out₀ out : List ℕ} {n : ℕ} {other : Header → Bool} {others cur : List ℕ} {to : ℕ} {m : List ℕ} → Copying q l end whole out₀ out n at
         → length whole ≤ length out₀ → Packing other l end others cur to at → m ≡ laidIn (midOf n (length out - n) out) (take (at + r .size - at) (drop at cur)) → Copying q l end whole out₀ (putMid n (length out - n) out m) (n + r .size) (at + r .size)
-    copy-laid {out = out} {n = n} c h p f =
+    copy-laid {out = out} {n = n} {cur = cur} c h p f =
         let z : at + r .size - at ≡ r .size = omega arith in
         let k = count-pass (c .count) in
         let s = part-length in
         let long = c .long in
-        copy-pass c (laid-in-tail out n (take (r .size) (drop at l)) (omega arith) refl (f ∙ rw (z, p .ahead)))
+        copy-pass c (laid-in-tail out n (take (r .size) (drop at l)) {part = take (at + r .size - at) (drop at cur)} (omega arith) (rw (z, p .ahead)) f)
 
     pub pack-pass :
         {whole cur m : List ℕ} {to n : ℕ} → Packing q l end whole cur to at → hold m n ≡ hold (sets cur to (take (r .size) (drop at cur))) (to + r .size)
@@ -169,12 +170,13 @@ module _ {l : List ℕ} {end at : ℕ} {r : Header} (t : Turn l end at r) where
           ahead = drop-sets (at + r .size) cur to (take (r .size) (drop at cur)) (omega arith) ∙ drop-more (r .size) at cur l (p .ahead);
         })
 
-  module _ {q : Header → Bool} (e : q r ≡ false) where
+  -- it does not
+  module _ {q : Header → Bool} {v : Bool} (w : v ≡ q r) (e : v ≡ false) where
     pub count-skip : {whole n : ℕ} → Counting q l end whole n at → Counting q l end whole n (at + r .size)
-    count-skip c = let k = ap length (picks-skip q e) in let g = goes in record { fits = t .fits; inside = g .1; behind = omega arith; sum = omega arith }
+    count-skip c = let k = ap length (picks-skip q (sym w ∙ e)) in let g = goes in record { fits = t .fits; inside = g .1; behind = omega arith; sum = omega arith }
 
     pub copy-skip : {whole out₀ out : List ℕ} {n : ℕ} → Copying q l end whole out₀ out n at → Copying q l end whole out₀ out n (at + r .size)
-    copy-skip {out = out} {n = n} c = record { count = count-skip (c .count); long = c .long; stores = ap (sets out n) (sym (picks-skip q e)) ∙ c .stores }
+    copy-skip {out = out} {n = n} c = record { count = count-skip (c .count); long = c .long; stores = ap (sets out n) (sym (picks-skip q (sym w ∙ e))) ∙ c .stores }
 
     pub pack-skip : {whole cur : List ℕ} {to : ℕ} → Packing q l end whole cur to at → Packing q l end whole cur to (at + r .size)
     pack-skip {cur = cur} p = record { copy = copy-skip (p .copy); ahead = drop-more (r .size) at cur l (p .ahead) }

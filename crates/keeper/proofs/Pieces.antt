@@ -8,7 +8,6 @@ use borrow.Author.Tests.{leb-true, le-leb}
 use lib.Dec.{eqb, leb}
 use lib.ListN.{length, take, drop, length-append, length-drop}
 use lib.Seq.{take-nil, drop-nil, take-at, drop-at}
-use Rattle.wire.specs.Fields.{inRange}
 use Rattle.wire.specs.Lists.{keep}
 use Rattle.message.specs.Encode.{digits}
 use Rattle.message.proofs.Judged.{length-digits}
@@ -44,7 +43,7 @@ pub sound-join : (ks : List Kept) (k : Kept) → AllSound ks → Sound k → All
 sound-join [] k a s = (s, tt)
 sound-join (j ∷ ks) k a s = (a .0, sound-join ks k (a .1) s)
 
--- ONE PIECE
+-- ONE PIECE: there is something in it where there are bytes, and it goes no further than they do
 
 module _ (xs : List ℕ) where
   header-cases :
@@ -68,15 +67,16 @@ module _ (xs : List ℕ) where
 
 -- PIECES ONE AFTER ANOTHER
 
-module _ (q : Header → Bool) where
-  passed-nil : (v : Bool) (n : ℕ) → _≡_ {A = List ℕ} (cond v (take n []) []) []
-  passed-nil true n = take-nil n
-  passed-nil false n = refl
+passed-nil : (v : Bool) (n : ℕ) → _≡_ {A = List ℕ} (cond v (take n []) []) []
+passed-nil true n = take-nil n
+passed-nil false n = refl
 
+module _ (q : Header → Bool) where
   picked-nil : (n : ℕ) → picked q n [] ≡ []
   picked-nil zero = refl
   picked-nil (suc n) = rw (passed-nil (q (headerOf [])) (headerOf [] .size), drop-nil (headerOf [] .size)) (picked-nil n)
 
+  -- more looks than bytes find no more
   picked-enough : (n m : ℕ) (xs : List ℕ) → length xs ≤ n → length xs ≤ m → picked q n xs ≡ picked q m xs
   picked-enough zero m [] h k = sym (picked-nil m)
   picked-enough zero m (x ∷ xs) h k = absurd (omega arith)
@@ -95,13 +95,11 @@ module _ (q : Header → Bool) where
   -- a piece, and then the rest
   pub pieces-next : (xs : List ℕ) → piecesIn q xs ≡ passed q (headerOf xs) xs ++ piecesIn q (drop (headerOf xs .size) xs)
   unfolding piecesIn
-  pieces-next [] = rw (passed-nil (q (headerOf [])) (headerOf [] .size), drop-nil (headerOf [] .size))
-  pieces-next (x ∷ xs) =
-      let r = headerOf (x ∷ xs) in
-      let s = size-some (x ∷ xs) (omega arith) in
-      let l = length-drop (r .size) (x ∷ xs) in
-      ap (λ (t : List ℕ). passed q r (x ∷ xs) ++ t)
-      (picked-enough (length xs) (length (drop (r .size) (x ∷ xs))) (drop (r .size) (x ∷ xs)) (omega arith) (omega arith))
+  pieces-next xs =
+      let r = headerOf xs in
+      let l = length-drop (r .size) xs in
+      picked-enough (length xs) (suc (length xs)) xs (omega arith) (omega arith)
+      ∙ ap (λ (t : List ℕ). passed q r xs ++ t) (picked-enough (length xs) (length (drop (r .size) xs)) (drop (r .size) xs) (omega arith) (omega arith))
 
 -- RECORDS
 
@@ -118,8 +116,10 @@ length-records [] = refl
 length-records (kept top own xs ∷ ks) =
     omega (arith, length-append (recordOf (kept top own xs)) (recordsOf ks), length-record top own xs, length-records ks)
 
-in-range : (v high : ℕ) → v ≤ high → inRange 0 high v ≡ true
-in-range v high h = rw (le-leb 0 v (omega arith), le-leb v high h)
+-- a number that fits is read back
+word-from : (xs : List ℕ) (at v : ℕ) (post : List ℕ) → From xs at (digits 4 v) post → Small v → word xs at ≡ v
+word-from xs at v post f h =
+    ap (λ x. x .value) (number-from post 4 0 0xFFFF_FFFF 4 v f h (rw (le-leb 0 v (omega arith), le-leb v 0xFFFF_FFFF (omega arith))))
 
 module _ (top own : ℕ) (xs post : List ℕ) (f : Fitting top own xs) where
   abbrev whole : List ℕ
@@ -148,19 +148,19 @@ module _ (top own : ℕ) (xs post : List ℕ) (f : Fitting top own xs) where
 
   mark-is : markOf whole ≡ 0xC34D
   unfolding recordOf t-part o-part n-part digits
-  mark-is = ap (λ x. x .value) (number-from (t-part ++ post) 2 0 0xFFFF 4 0xC34D (record { at = omega arith; is = refl }) (omega arith) (in-range 0xC34D 0xFFFF (omega arith)))
+  mark-is = ap (λ x. x .value) (number-from (t-part ++ post) 2 0 0xFFFF 4 0xC34D (record { at = omega arith; is = refl }) (omega arith) refl)
 
   top-is : word whole 2 ≡ top
   unfolding t-part
-  top-is = ap (λ x. x .value) (number-from (o-part ++ post) 4 0 0xFFFF_FFFF 4 top (from-first (digits 4 top) o-part post after-mark) (f .top-fits) (in-range top 0xFFFF_FFFF (omega (arith, f .top-fits))))
+  top-is = word-from whole 2 top (o-part ++ post) (from-first (digits 4 top) o-part post after-mark) (f .top-fits)
 
   own-is : word whole 6 ≡ own
   unfolding o-part
-  own-is = ap (λ x. x .value) (number-from (n-part ++ post) 4 0 0xFFFF_FFFF 4 own (from-first (digits 4 own) n-part post after-top) (f .own-fits) (in-range own 0xFFFF_FFFF (omega (arith, f .own-fits))))
+  own-is = word-from whole 6 own (n-part ++ post) (from-first (digits 4 own) n-part post after-top) (f .own-fits)
 
   n-is : word whole 10 ≡ length xs
   unfolding n-part
-  n-is = ap (λ x. x .value) (number-from (xs ++ post) 4 0 0xFFFF_FFFF 4 (length xs) (from-first (digits 4 (length xs)) xs post after-own) (f .length-fits) (in-range (length xs) 0xFFFF_FFFF (omega (arith, f .length-fits))))
+  n-is = word-from whole 10 (length xs) (xs ++ post) (from-first (digits 4 (length xs)) xs post after-own) (f .length-fits)
 
   header-record : headerOf whole ≡ header (14 + length xs) true top own
   unfolding headerOf

@@ -16,8 +16,17 @@ use Rattle.session.specs.History.{given}
 use Rattle.session.specs.Rules.{accepts, Heard, unread, heard, hears}
 use Rattle.session.specs.Machine.{versionIn, placeIn, headIn, answerOf, storedOf}
 use Rattle.keeper.specs.declared.Reply.{Reply}
+use Rattle.keeper.specs.declared.Deed.{Deed}
+use Rattle.keeper.specs.declared.Deed.the-variants as deed
 use Rattle.keeper.specs.Rules.{kept, Doing, nothing, keeps, frees, drops, doing, recordOf, laid, Space, ruled, Call, call, Outcome}
 use Rattle.keeper.specs.Records.{Hold, hold, taken, removed}
+
+-- what the code hands on
+abbrev pub deedOf : Deed → Doing
+deedOf deed.Nothing = nothing
+deedOf (deed.Keeps own) = keeps own
+deedOf (deed.Frees x) = frees x
+deedOf (deed.Drops x sub) = drops x sub
 
 -- A BUFFER AFTER A MESSAGE
 

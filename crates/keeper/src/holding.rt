@@ -9,7 +9,8 @@ ghost use Rattle.session.specs.Rules.{test, accepts};
 ghost use Rattle.session.specs.Acts.{eventIn};
 ghost use Rattle.keeper.specs.Rules.{keeps, doing, laid, ruleRoom, ruleKeeper, ruled};
 ghost use Rattle.keeper.specs.Records.{hold};
-ghost use Rattle.keeper.specs.Machine.{appended, holdAfter, releasedFrom, spaceIn, replied};
+ghost use Rattle.keeper.specs.Machine.{appended, holdAfter, releasedFrom, spaceIn, replied, deedOf};
+use crate::Deed;
 use crate::Reply;
 use crate::records;
 use session::Act;
@@ -74,42 +75,55 @@ fn reply_of(answer: Answer, released: usize) -> Reply
     }
 }
 
-// What an accepted message of another kind gets.
-fn rule_act(
-    buffer: &[u8],
-    held: usize,
-    out: usize,
-    place: Place,
-    a: Act,
-    n: usize,
-    answer: Answer,
-) -> Reply
-    ensures { λ r. ⌜ ((xs : List ℕ) → r ≡ replied (ruleKeeper (spaceIn (hold (now (buffer .entry)) held) out (doing (eventIn a xs))) (doing (eventIn a xs)) place n answer) (length (releasedFrom (doing (eventIn a xs)) (hold (now (buffer .entry)) held)))) ⌝ }
+// What a message does to what is kept.
+pub fn deed_of(a: Act) -> Deed
+    ensures { λ r. ⌜ ((xs : List ℕ) → deedOf r ≡ doing (eventIn a xs)) ⌝ }
 {
     match a {
-        Act::Truncate { .. } => reply_of(rule_room(place, buffer.len(), held, n, answer), 0),
-        Act::StreamCommit { xid } => {
-            let released = records::size_of(buffer, held, xid);
-            reply_of(passed(released <= out, Refusal::OUTPUT, answer), released)
-        }
-        Act::StreamAbort { .. } => reply_of(answer, 0),
-        _ => reply_of(answer, 0),
+        Act::Truncate { xid, .. } => Deed::Keeps(xid),
+        Act::StreamCommit { xid } => Deed::Frees(xid),
+        Act::StreamAbort { xid, sub } => Deed::Drops { xid, sub },
+        _ => Deed::Nothing,
     }
 }
 
-pub fn judge_act(
+// What a message gets that the session accepts with `answer`.
+fn rule(
     buffer: &[u8],
     held: usize,
     out: usize,
     place: Place,
-    a: Act,
+    d: Deed,
     n: usize,
     answer: Answer,
 ) -> Reply
-    ensures { λ r. ⌜ ((xs : List ℕ) → r ≡ replied (ruled (spaceIn (hold (now (buffer .entry)) held) out (doing (eventIn a xs))) (doing (eventIn a xs)) place n answer) (length (releasedFrom (doing (eventIn a xs)) (hold (now (buffer .entry)) held)))) ⌝ }
+    ensures { λ r. ⌜ r ≡ replied (ruleKeeper (spaceIn (hold (now (buffer .entry)) held) out (deedOf d)) (deedOf d) place n answer) (length (releasedFrom (deedOf d) (hold (now (buffer .entry)) held))) ⌝ }
+{
+    match d {
+        Deed::Nothing => reply_of(answer, 0),
+        Deed::Keeps(_) => reply_of(rule_room(place, buffer.len(), held, n, answer), 0),
+        Deed::Frees(xid) => {
+            let released = records::size_of(buffer, held, xid);
+            reply_of(passed(released <= out, Refusal::OUTPUT, answer), released)
+        }
+        Deed::Drops { .. } => reply_of(answer, 0),
+    }
+}
+
+// What a message gets that the session answers with `answer`.
+pub fn judge(
+    buffer: &[u8],
+    held: usize,
+    out: usize,
+    place: Place,
+    d: Deed,
+    n: usize,
+    answer: Answer,
+) -> Reply
+    ensures { λ r. ⌜ r ≡ replied (ruled (spaceIn (hold (now (buffer .entry)) held) out (deedOf d)) (deedOf d) place n answer) (length (releasedFrom (deedOf d) (hold (now (buffer .entry)) held))) ⌝ }
 {
     if session::accepted(answer) {
-        return rule_act(buffer, held, out, place, a, n, answer);
+        return rule(buffer, held, out, place, d, n, answer);
     }
     Reply {
         answer,
@@ -129,22 +143,22 @@ pub fn join(buffer: &mut [u8], held: usize, place: Place, own: u64, bytes: &[u8]
     }
 }
 
-// What an accepted message of another kind makes of the buffer and the output: how many bytes are held then.
-pub fn apply_act(
+// What an accepted message makes of the buffer and the output: how many bytes are held then.
+pub fn apply(
     buffer: &mut [u8],
     held: usize,
     out: &mut [u8],
     place: Place,
-    a: Act,
+    d: Deed,
     bytes: &[u8],
 ) -> usize
-    requires { ⌜ accepts (ruleKeeper (spaceIn (hold (now buffer) held) (length (now out)) (doing (eventIn a (now bytes)))) (doing (eventIn a (now bytes))) place (length (now bytes)) Answer.Accepted) ≡ true ⌝ }
-    ensures { λ r. ⌜ (now (out .exit) ≡ laid (releasedFrom (doing (eventIn a (now (bytes .entry)))) (hold (now (buffer .entry)) held)) (now (out .entry))) × (hold (now (buffer .exit)) r ≡ holdAfter (doing (eventIn a (now (bytes .entry)))) place (now (bytes .entry)) (hold (now (buffer .entry)) held)) ⌝ }
+    requires { ⌜ accepts (ruleKeeper (spaceIn (hold (now buffer) held) (length (now out)) (deedOf d)) (deedOf d) place (length (now bytes)) Answer.Accepted) ≡ true ⌝ }
+    ensures { λ r. ⌜ (now (out .exit) ≡ laid (releasedFrom (deedOf d) (hold (now (buffer .entry)) held)) (now (out .entry))) × (hold (now (buffer .exit)) r ≡ holdAfter (deedOf d) place (now (bytes .entry)) (hold (now (buffer .entry)) held)) ⌝ }
 {
-    match a {
-        Act::Truncate { xid, .. } => join(buffer, held, place, xid, bytes),
-        Act::StreamCommit { xid } => records::release(buffer, held, xid, out),
-        Act::StreamAbort { xid, sub } => records::remove(buffer, held, xid == sub, xid, sub),
-        _ => held,
+    match d {
+        Deed::Nothing => held,
+        Deed::Keeps(own) => join(buffer, held, place, own, bytes),
+        Deed::Frees(xid) => records::release(buffer, held, xid, out),
+        Deed::Drops { xid, sub } => records::remove(buffer, held, xid == sub, xid, sub),
     }
 }

@@ -38,6 +38,15 @@ struct Header {
     own: u32,
 }
 
+// What a message does to what is kept: nothing; a change, under its own xid, is kept; a Stream Commit frees what a transaction kept; a
+// Stream Abort drops it, or what it kept under the xid `sub`.
+enum Deed {
+    Nothing,
+    Keeps(u64),
+    Frees(u32),
+    Drops { xid: u32, sub: u32 },
+}
+
 // Gives a session with a keeper a change.
 fn step_change<'a>(
     head: &'a mut [u64; 6],
@@ -90,12 +99,19 @@ fn step_act<'a>(
     let answer = stages::judge_act(
         head, xids, marks, keys, tags, identities, columns, a, bytes,
     );
-    let said = holding::judge_act(buffer, at, out.len(), place, a, bytes.len(), answer);
-    if session::accepted(said.answer) {
+    let d = holding::deed_of(a);
+    let Reply {
+        answer: said,
+        released,
+    } = holding::judge(buffer, at, out.len(), place, d, bytes.len(), answer);
+    if session::accepted(said) {
         stages::apply_act(head, xids, marks, keys, tags, identities, columns, a, tag);
-        *held = holding::apply_act(buffer, at, out, place, a, bytes);
+        *held = holding::apply(buffer, at, out, place, d, bytes);
     }
-    said
+    Reply {
+        answer: said,
+        released,
+    }
 }
 
 // Gives it one message: the session looks and judges, the keeper judges, and where both accept both store. Nothing is read or judged twice.

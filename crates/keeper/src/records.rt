@@ -1,6 +1,6 @@
 // Held bytes, any: whole records from the front, and what is none, which is one piece to the end and nobody's.
 ghost use mathlib.Core.Path.{_≡_};
-ghost use mathlib.Core.Bool.{cond, true};
+ghost use mathlib.Core.Bool.{true};
 ghost use mathlib.Core.List.{List};
 ghost use Prim.Native.Nat.{ℕ, _+_, _≤_};
 ghost use lib.ListN.{length, take, drop};
@@ -41,7 +41,13 @@ fn header(bytes: &[u8]) -> Header
     if bytes.len() < 14 {
         return none;
     }
-    let Field16 { value: mark, .. } = wire::number16(bytes, Cursor::At(0), 0, MAX16, Refusal::FIELD);
+    let Field16 { value: mark, .. } = wire::number16(
+        bytes,
+        Cursor::At(0),
+        0,
+        MAX16,
+        Refusal::FIELD,
+    );
     if mark != MARK {
         return none;
     }

@@ -10,9 +10,9 @@ use borrow.Rule.Slice.PartMut.{midOf, putMid}
 use Rattle.message.specs.Encode.{digits}
 use Rattle.message.proofs.Judged.{length-digits}
 use Rattle.copying.specs.Copies.{laidIn}
+use Rattle.copying.proofs.Copies.{sets-append, laid-in-tail}
 use Rattle.keeper.specs.Rules.{kept, recordOf}
 use Rattle.keeper.specs.Records.{hold}
-use Rattle.copying.proofs.Copies.{sets-append, laid-in-tail}
 use Rattle.keeper.proofs.records.append.Statement.{statement}
 use Rattle.keeper.proofs.records.append.Tie as tie
 
@@ -113,7 +113,7 @@ same-length : tie.Need-same-length
 same-length c = search needs
 
 returns : tie.Need-returns
-returns c = 
+returns c =
     let a = c .before .before .before .before .before .before .before .before .before .before .before .before .before .before .before .before .before .before .before .before .before .before .args in
     let l = a .buffer .now in
     let i = a .held in
@@ -122,10 +122,10 @@ returns c =
     let o = digits 4 (a .own) in
     let n = digits 4 (length (a .bytes .now)) in
     let h = c .before .before .before .before .before .before .before .before .before .before .before .before .before .before .before .before .before .before .before .before .before .before .pre in
-    let e₁ = laid-in-tail l i m (simp (length-append, length-digits) (omega arith)) refl (c .before .before .before .before .before .before .before .before .before .before .before .before .before .before .before .before .before .before .lay-number .ensures) in
-    let e₂ = laid-next l i m t (i + 2) e₁ (simp (length-append, length-digits) (omega arith)) (simp (length-append, length-digits) (omega arith)) (c .before .before .before .before .before .before .before .before .before .before .before .before .before .before .lay-number2 .ensures) in
-    let e₃ = laid-next l i (m ++ t) o (i + 6) e₂ (simp (length-append, length-digits) (omega arith)) (simp (length-append, length-digits) (omega arith)) (c .before .before .before .before .before .before .before .before .before .before .lay-number3 .ensures) in
-    let e₄ = laid-next l i (m ++ t ++ o) n (i + 10) e₃ (simp (length-append, length-digits) (omega arith)) (simp (length-append, length-digits) (omega arith)) (c .before .before .before .before .before .before .lay-number4 .ensures) in
+    let e₁ = laid-in-tail l i m (simp length-digits (omega arith)) refl (c .before .before .before .before .before .before .before .before .before .before .before .before .before .before .before .before .before .before .lay-number .ensures) in
+    let e₂ = laid-next l i m t (i + 2) e₁ (simp length-digits (omega arith)) (simp length-digits (omega arith)) (c .before .before .before .before .before .before .before .before .before .before .before .before .before .before .lay-number2 .ensures) in
+    let e₃ = laid-next l i (m ++ t) o (i + 6) e₂ (simp (length-append, length-digits) (omega arith)) (simp length-digits (omega arith)) (c .before .before .before .before .before .before .before .before .before .before .lay-number3 .ensures) in
+    let e₄ = laid-next l i (m ++ t ++ o) n (i + 10) e₃ (simp (length-append, length-digits) (omega arith)) (simp length-digits (omega arith)) (c .before .before .before .before .before .before .lay-number4 .ensures) in
     let e₅ = laid-next l i (m ++ t ++ o ++ n) (a .bytes .now) (i + 14) e₄ (simp (length-append, length-digits) (omega arith)) (omega arith) (c .before .before .lay-part .ensures) in
     ap₂ hold (e₅ ∙ ap (sets l i) (record-is (a .top) (a .own) (a .bytes .now))) (omega arith)
 

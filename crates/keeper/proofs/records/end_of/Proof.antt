@@ -10,7 +10,10 @@ returns : tie.Need-returns
 returns c = search needs
 
 returns-2 : tie.Need-returns-2
-returns-2 c = let a = c .before .args in let h = c .if1 .left in (omega arith, λ xs e. take-all (a .room) xs (omega arith) ∙ sym (take-all (a .held) xs (omega arith)))
+returns-2 c =
+    let a = c .before .args in
+    let h = c .if1 .left in
+    (omega arith, λ xs e. take-all (a .room) xs (omega arith) ∙ sym (take-all (a .held) xs (omega arith)))
 
 pub end-of-spec : {M : Type 1} → statement M
 end-of-spec =
