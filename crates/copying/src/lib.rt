@@ -83,7 +83,8 @@ fn lay_bytes(tail: &mut [u8], part: &[u8])
     }
 }
 
-// A number of `width` bytes, the most significant first, at the front of a buffer.
+// A number of `width` bytes, the most significant first, at the front of a buffer. The test also keeps the stores of one number apart from
+// those of the next, so that each becomes one store.
 pub fn lay_number(tail: &mut [u8], width: usize, value: u64)
     ensures { λ r. ⌜ now (tail .exit) ≡ laidIn (now (tail .entry)) (digits width value) ⌝ }
 {

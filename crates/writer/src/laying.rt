@@ -1,7 +1,7 @@
 // Storing a field at its place, where there is room for it.
 ghost use mathlib.Core.Path.{_≡_};
 ghost use mathlib.Core.List.{[], _∷_, _++_};
-ghost use Prim.Native.Nat.{_+_, _*_, _≤_};
+ghost use Prim.Native.Nat.{_+_, _≤_};
 ghost use lib.ListN.{length};
 ghost use lib.Seq.{sets};
 ghost use Rattle.message.specs.Encode.{digits, cut, fromTo};
@@ -12,96 +12,6 @@ use message::OldTuple;
 use wire::Cursor;
 use wire::Span;
 
-// A number's digits at the front of a tail.
-fn lay_digits(tail: &mut [u8], width: usize, value: u64)
-    requires { ⌜ width ≤ length (now tail) ⌝ }
-    ensures { λ r. ⌜ now (tail .exit) ≡ sets (now (tail .entry)) 0 (digits width value) ⌝ }
-{
-    let mut k = width;
-    let mut v = value;
-    while 0 < k {
-        k -= 1;
-        tail[k] = (v % 256) as u8;
-        v = v / 256;
-    }
-}
-
-// The number whose digits are the eight bytes at `at`.
-fn eight_at(part: &[u8], at: usize) -> u64
-    requires { ⌜ at + 8 ≤ length (now part) ⌝ }
-    ensures { λ r. ⌜ digits 8 r ≡ cut (now (part .entry)) at 8 ⌝ }
-{
-    let mut v: u64 = 0;
-    let mut k: usize = 0;
-    while k < 8 {
-        v = v * 256 + part[at + k] as u64;
-        k += 1;
-    }
-    v
-}
-
-// Eight bytes of a part at their place in a tail, in one load and one store.
-fn lay_eight(tail: &mut [u8], part: &[u8], at: usize)
-    requires { ⌜ (at + 8 ≤ length (now part)) × (at + 8 ≤ length (now tail)) ⌝ }
-    ensures { λ r. ⌜ now (tail .exit) ≡ sets (now (tail .entry)) at (cut (now (part .entry)) at 8) ⌝ }
-{
-    let v = eight_at(part, at);
-    lay_digits(&mut tail[at..], 8, v);
-}
-
-// `eights` times eight bytes.
-fn lay_block(tail: &mut [u8], part: &[u8], at: usize, eights: usize)
-    requires { ⌜ (eights ≤ 4) × (at + 8 * eights ≤ length (now part)) × (at + 8 * eights ≤ length (now tail)) ⌝ }
-    ensures { λ r. ⌜ now (tail .exit) ≡ sets (now (tail .entry)) at (cut (now (part .entry)) at (8 * eights)) ⌝ }
-{
-    let mut k = 0;
-    while k < eights {
-        lay_eight(tail, part, at + 8 * k);
-        k += 1;
-    }
-}
-
-// A part that has room for a block, block by block; the last block ends where the part ends, over what was laid before.
-fn lay_blocks(tail: &mut [u8], part: &[u8], eights: usize)
-    requires { ⌜ (1 ≤ eights) × (eights ≤ 4) × (8 * eights ≤ length (now part)) × (length (now part) ≤ length (now tail)) ⌝ }
-    ensures { λ r. ⌜ now (tail .exit) ≡ sets (now (tail .entry)) 0 (now (part .entry)) ⌝ }
-{
-    let width = 8 * eights;
-    let last = part.len() - width;
-    let mut i = 0;
-    while i < last {
-        lay_block(tail, part, i, eights);
-        i += width;
-    }
-    lay_block(tail, part, last, eights);
-}
-
-// A part byte by byte.
-fn lay_bytes(tail: &mut [u8], part: &[u8])
-    requires { ⌜ length (now part) ≤ length (now tail) ⌝ }
-    ensures { λ r. ⌜ now (tail .exit) ≡ sets (now (tail .entry)) 0 (now (part .entry)) ⌝ }
-{
-    let mut i = 0;
-    while i < part.len() {
-        tail[i] = part[i];
-        i += 1;
-    }
-}
-
-// A part at the front of a tail.
-fn lay_part(tail: &mut [u8], part: &[u8])
-    requires { ⌜ length (now part) ≤ length (now tail) ⌝ }
-    ensures { λ r. ⌜ now (tail .exit) ≡ sets (now (tail .entry)) 0 (now (part .entry)) ⌝ }
-{
-    if part.len() < 8 {
-        lay_bytes(tail, part)
-    } else if part.len() < 32 {
-        lay_blocks(tail, part, 1)
-    } else {
-        lay_blocks(tail, part, 4)
-    }
-}
-
 pub fn put_byte(out: &mut [u8], at: usize, b: u8) -> usize
     requires { ⌜ at + 1 ≤ length (now out) ⌝ }
     ensures { λ r. ⌜ (spot (now (out .exit)) r ≡ put (b ∷ []) (spot (now (out .entry)) at)) × (r ≡ at + 1) ⌝ }
@@ -110,15 +20,11 @@ pub fn put_byte(out: &mut [u8], at: usize, b: u8) -> usize
     at + 1
 }
 
-// The test is always passed: it keeps the stores of one number apart from those of the next, and each becomes one store.
 pub fn put_number(out: &mut [u8], at: usize, width: usize, value: u64) -> usize
     requires { ⌜ at + width ≤ length (now out) ⌝ }
     ensures { λ r. ⌜ (spot (now (out .exit)) r ≡ put (digits width value) (spot (now (out .entry)) at)) × (r ≡ at + width) ⌝ }
 {
-    let tail = &mut out[at..];
-    if width <= tail.len() {
-        lay_digits(tail, width, value);
-    }
+    copying::lay_number(&mut out[at..], width, value);
     at + width
 }
 
@@ -137,7 +43,7 @@ pub fn put_part(out: &mut [u8], at: usize, source: &[u8], start: usize, n: usize
     ensures { λ r. ⌜ (spot (now (out .exit)) r ≡ put (cut (now (source .entry)) start n) (spot (now (out .entry)) at)) × (r ≡ at + length (cut (now (source .entry)) start n)) ⌝ }
 {
     let part = judging::cut_of(source, start, n);
-    lay_part(&mut out[at..], part);
+    copying::lay_part(&mut out[at..], part);
     at + part.len()
 }
 
@@ -160,12 +66,12 @@ fn write_tuple(tail: &mut [u8], source: &[u8], start: usize, end: Cursor) -> usi
     if start <= end {
         if end <= source.len() {
             let tuple = &source[start..end];
-            lay_part(tail, tuple);
+            copying::lay_part(tail, tuple);
             return tuple.len();
         }
     }
     let tuple = judging::cut_of(source, start, judging::less(end, start));
-    lay_part(tail, tuple);
+    copying::lay_part(tail, tuple);
     tuple.len()
 }
 

@@ -1,11 +1,11 @@
 use Prim.Native.Nat.{ℕ, _+_}
 use mathlib.Core.List.{List}
 use mathlib.Core.Path.{ap}
-use native.Mathlib.Omega.{arith}
 use borrow.Author.Needs.{needs}
 use lib.ListN.{length}
 use Rattle.message.specs.Encode.{cut}
-use Rattle.writer.proofs.Stores.{tail-room, put-in-tail}
+use Rattle.copying.proofs.Copies.{laid-in-tail}
+use Rattle.writer.proofs.Stores.{put-at}
 use Rattle.writer.proofs.laying.put_part.Statement.{statement}
 use Rattle.writer.proofs.laying.put_part.Tie as tie
 
@@ -22,8 +22,7 @@ part-lay-part-end : tie.Need-part-lay-part-end
 part-lay-part-end c = search needs
 
 lay-part-requires : tie.Need-lay-part-requires
-lay-part-requires c κs =
-    tail-room (c .before .before .before .before .args .out .now) (c .before .before .before .before .args .at) (length (c .before .cut-of .result .now)) (omega (arith, ap length (c .before .cut-of .ensures), c .before .before .before .before .pre))
+lay-part-requires c κs = tt
 
 add-result : tie.Need-add-result
 add-result c = search needs
@@ -34,8 +33,10 @@ same-length c = search needs
 returns : tie.Need-returns
 returns c =
     let s = c .before .before .before .before .before .before .before in
-    put-in-tail (s .args .out .now) (s .args .at) (cut (s .args .source .now) (s .args .start) (s .args .n)) (omega (arith, s .pre)) (c .before .before .before .before .cut-of .ensures) (c .before .before .lay-part .ensures)
-    (ap (λ (l : List ℕ). s .args .at + length l) (c .before .before .before .before .cut-of .ensures))
+    let part = cut (s .args .source .now) (s .args .start) (s .args .n) in
+    let e = c .before .before .before .before .cut-of .ensures in
+    put-at (s .args .out .now) (s .args .at) part (laid-in-tail (s .args .out .now) (s .args .at) part (s .pre) e (c .before .before .lay-part .ensures))
+    (ap (λ (l : List ℕ). s .args .at + length l) e)
 
 pub put-part-spec : {M : Type 1} → statement M
 put-part-spec =

@@ -2,7 +2,8 @@ use mathlib.Core.Path.{refl}
 use native.Mathlib.Omega.{arith}
 use borrow.Author.Needs.{needs}
 use Rattle.message.specs.Encode.{fromTo}
-use Rattle.writer.proofs.Stores.{put-in-tail}
+use Rattle.copying.proofs.Copies.{set-in-tail}
+use Rattle.writer.proofs.Stores.{put-at}
 use Rattle.writer.proofs.laying.put_tuple.Statement.{statement}
 use Rattle.writer.proofs.laying.put_tuple.Tie as tie
 
@@ -27,7 +28,9 @@ same-length c = search needs
 returns : tie.Need-returns
 returns c =
     let s = c .before .before .before .before .before .before in
-    put-in-tail (s .args .out .now) (s .args .at) (fromTo (s .args .source .now) (s .args .start) (s .args .end)) (omega (arith, s .pre)) refl (c .before .before .write-tuple .ensures .0) (rw (c .before .before .write-tuple .ensures .1))
+    let tuple = fromTo (s .args .source .now) (s .args .start) (s .args .end) in
+    let w = c .before .before .write-tuple .ensures in
+    put-at (s .args .out .now) (s .args .at) tuple (set-in-tail (s .args .out .now) (s .args .at) tuple (omega (arith, s .pre)) refl (w .0)) (rw (w .1))
 
 pub put-tuple-spec : {M : Type 1} → statement M
 put-tuple-spec =

@@ -3,9 +3,9 @@ use mathlib.Core.Path.{_≡_, refl, _∙_}
 use native.Mathlib.Omega.{arith}
 use lib.ListN.{length, take}
 use lib.Seq.{sets}
-use Rattle.writer.proofs.Stores.{cut-turn, cut-end}
-use Rattle.writer.proofs.laying.lay_blocks.Statement.{statement}
-use Rattle.writer.proofs.laying.lay_blocks.Tie as tie
+use Rattle.copying.proofs.Copies.{cut-turn, cut-end}
+use Rattle.copying.proofs.lay_blocks.Statement.{statement}
+use Rattle.copying.proofs.lay_blocks.Tie as tie
 
 abbrev Inv-loop : tie.InvT-loop
 Inv-loop tail₀ part eights width last i₀ tail i = (i ≤ length part) × (length tail ≡ length tail₀) × (tail ≡ sets tail₀ 0 (take i part))
@@ -36,11 +36,12 @@ loop-again c =
     let s = c .before .before .before .before .before .before .before .before in
     let i = c .before .before .before .before .before .loop .i in
     let inv = c .before .before .before .before .before .loop .inv in
-    let w = 8 * s .args .eights in (
+    let w = 8 * s .args .eights in
+    let z : 0 + i ≡ i = omega arith in (
       omega arith,
       c .before .before .lay-block .kept .0 ∙ inv .1,
-      cut-turn (s .args .tail .now) (s .args .part .now) 0 i w i (i + w) (inv .0) (omega arith) refl (inv .2)
-          (c .before .before .lay-block .ensures),
+      cut-turn (s .args .tail .now) (s .args .part .now) 0 0 i w (i + w) (omega arith) refl (inv .2)
+          (rw z (c .before .before .lay-block .ensures)),
     )
 
 lay-block-requires-2 : tie.Need-lay-block-requires-2 Inv-loop μ-loop

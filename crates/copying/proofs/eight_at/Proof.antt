@@ -6,9 +6,9 @@ use denote.Ref.{now}
 use lib.ListN.{getD}
 use Rattle.wire.proofs.Numbers.{more, within}
 use Rattle.message.specs.Encode.{digits, cut}
-use Rattle.writer.proofs.Stores.{digits-more}
-use Rattle.writer.proofs.laying.eight_at.Statement.{statement}
-use Rattle.writer.proofs.laying.eight_at.Tie as tie
+use Rattle.copying.proofs.Copies.{digits-more}
+use Rattle.copying.proofs.eight_at.Statement.{statement}
+use Rattle.copying.proofs.eight_at.Tie as tie
 
 abbrev Inv-loop : tie.InvT-loop
 Inv-loop part at v₀ k₀ v k = (k ≤ 8) × (digits k v ≡ cut part at k) × (v < 256 ^ k)

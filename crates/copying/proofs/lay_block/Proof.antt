@@ -4,9 +4,9 @@ use native.Mathlib.Omega.{arith}
 use lib.ListN.{length}
 use lib.Seq.{sets}
 use Rattle.message.specs.Encode.{cut}
-use Rattle.writer.proofs.Stores.{cut-turn}
-use Rattle.writer.proofs.laying.lay_block.Statement.{statement}
-use Rattle.writer.proofs.laying.lay_block.Tie as tie
+use Rattle.copying.proofs.Copies.{cut-turn}
+use Rattle.copying.proofs.lay_block.Statement.{statement}
+use Rattle.copying.proofs.lay_block.Tie as tie
 
 abbrev Inv-loop : tie.InvT-loop
 Inv-loop tail₀ part at eights k₀ tail k = (k ≤ eights) × (length tail ≡ length tail₀) × (tail ≡ sets tail₀ at (cut part at (8 * k)))
@@ -40,7 +40,7 @@ loop-again c =
     let inv = c .before .before .before .before .before .loop .inv in (
       omega arith,
       c .before .before .lay-eight .kept .0 ∙ inv .1,
-      cut-turn (s .args .tail .now) (s .args .part .now) at (8 * k) 8 (at + 8 * k) (8 * (k + 1)) (omega arith) refl (omega arith) (inv .2)
+      cut-turn (s .args .tail .now) (s .args .part .now) at at (8 * k) 8 (8 * (k + 1)) (omega arith) (omega arith) (inv .2)
           (c .before .before .lay-eight .ensures),
     )
 

@@ -3,9 +3,9 @@ use mathlib.Core.Path.{_≡_, refl}
 use native.Mathlib.Omega.{arith}
 use lib.ListN.{length, length-set, drop}
 use lib.Seq.{sets}
-use Rattle.writer.proofs.Stores.{byte-turn, byte-end}
-use Rattle.writer.proofs.laying.lay_bytes.Statement.{statement}
-use Rattle.writer.proofs.laying.lay_bytes.Tie as tie
+use Rattle.copying.proofs.Copies.{byte-turn, byte-end}
+use Rattle.copying.proofs.lay_bytes.Statement.{statement}
+use Rattle.copying.proofs.lay_bytes.Tie as tie
 
 abbrev Inv-loop : tie.InvT-loop
 Inv-loop tail₀ part i₀ tail i = (i ≤ length part) × (length tail ≡ length tail₀) × (sets tail i (drop i part) ≡ sets tail₀ 0 part)

@@ -1,9 +1,9 @@
 use native.Mathlib.Omega.{arith}
 use borrow.Author.Needs.{needs}
 use Rattle.message.specs.Encode.{cut}
-use Rattle.writer.proofs.Stores.{set-in-tail}
-use Rattle.writer.proofs.laying.lay_eight.Statement.{statement}
-use Rattle.writer.proofs.laying.lay_eight.Tie as tie
+use Rattle.copying.proofs.Copies.{set-in-tail}
+use Rattle.copying.proofs.lay_eight.Statement.{statement}
+use Rattle.copying.proofs.lay_eight.Tie as tie
 
 eight-at-requires : tie.Need-eight-at-requires
 eight-at-requires c κs = search needs

@@ -4,9 +4,9 @@ use native.Mathlib.Omega.{arith}
 use lib.ListN.{length, length-set}
 use lib.Seq.{sets}
 use Rattle.message.specs.Encode.{digits}
-use Rattle.writer.proofs.Stores.{digit-turn, digit-end}
-use Rattle.writer.proofs.laying.lay_digits.Statement.{statement}
-use Rattle.writer.proofs.laying.lay_digits.Tie as tie
+use Rattle.copying.proofs.Copies.{digit-turn, digit-end}
+use Rattle.copying.proofs.lay_digits.Statement.{statement}
+use Rattle.copying.proofs.lay_digits.Tie as tie
 
 abbrev Inv-loop : tie.InvT-loop
 Inv-loop tail₀ width value k₀ v₀ tail k v = (k ≤ width) × (length tail ≡ length tail₀) × (sets tail 0 (digits k v) ≡ sets tail₀ 0 (digits k₀ v₀))
