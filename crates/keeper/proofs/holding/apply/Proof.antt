@@ -3,8 +3,7 @@ use mathlib.Core.Path.{refl}
 use borrow.Author.Needs.{needs}
 use lib.ListN.{length}
 use Rattle.keeper.specs.Records.{hold}
-use Rattle.keeper.specs.Machine.{spaceIn, deedOf}
-use Rattle.keeper.proofs.Steps.{output-there}
+use Rattle.keeper.proofs.Steps.{join-there, output-there}
 use Rattle.keeper.proofs.holding.apply.Statement.{statement}
 use Rattle.keeper.proofs.holding.apply.Tie as tie
 
@@ -15,13 +14,13 @@ enum-known-d : tie.Need-enum-known-d
 enum-known-d c = search needs
 
 join-requires : tie.Need-join-requires
-join-requires c κs = rw (c .before .before .d .given .1) at (c .before .before .before .before .before .before .before .pre)
+join-requires c κs = let a = c .before .before .before .before .before .before .before .args in join-there (hold (a .buffer .now) (a .held)) (length (a .out .now)) (a .d) (a .place) (length (a .bytes .now)) (c .before .before .before .before .before .before .before .pre) _ (c .before .before .d .given .1)
 
 enum-known-d-2 : tie.Need-enum-known-d-2
 enum-known-d-2 c = search needs
 
 release-requires : tie.Need-release-requires
-release-requires c κs = let a = c .before .before .before .before .before .before .before .before .args in output-there (spaceIn (hold (a .buffer .now) (a .held)) (length (a .out .now)) (deedOf (a .d))) (c .before .before .before .d2 .given .0 .0) (a .place) (length (a .bytes .now)) (rw (c .before .before .before .d2 .given .1) at (c .before .before .before .before .before .before .before .before .pre))
+release-requires c κs = let a = c .before .before .before .before .before .before .before .before .args in output-there (hold (a .buffer .now) (a .held)) (length (a .out .now)) (a .d) (a .place) (length (a .bytes .now)) (c .before .before .before .before .before .before .before .before .pre) _ (c .before .before .before .d2 .given .1)
 
 enum-known-d-3 : tie.Need-enum-known-d-3
 enum-known-d-3 c = search needs

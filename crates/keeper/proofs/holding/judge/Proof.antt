@@ -13,7 +13,7 @@ returns : tie.Need-returns
 returns c = c .rule .ensures ∙ rw (sym (c .before .before .accepted .ensures) ∙ c .before .if1 .taken)
 
 returns-2 : tie.Need-returns-2
-returns-2 c = rw (sym (c .before .accepted .ensures) ∙ c .if1 .left)
+returns-2 c = let w = sym (c .before .accepted .ensures) ∙ c .if1 .left in rw (w, w)
 
 pub judge-spec : {M : Type 1} → statement M
 judge-spec =
