@@ -8,7 +8,7 @@ use Rattle.session.proofs.Runs.{versionFor}
 use Rattle.session.proofs.ListTheorem.{start-hears, starts}
 use Rattle.keeper.specs.Rules.{Call, outcomes}
 use Rattle.keeper.specs.Records.{hold}
-use Rattle.keeper.specs.Machine.{run}
+use Rattle.keeper.specs.Runs.{run}
 use Rattle.keeper.proofs.Runs.{agree-run, same-hearing-outcomes}
 
 -- However the session starts, whatever is in the buffer that is lent to the keeper and however long it is, and whatever the messages are, any

@@ -16,7 +16,8 @@ use Rattle.session.specs.Machine.{storedOf}
 use Rattle.session.proofs.Runs.{says, versionFor, Well, hears-well}
 use Rattle.keeper.specs.Rules.{Kept, doing, keptIn, releasedBy, laid, judgeKept, Call, call, Outcome, outcome, answerTo, releasedTo, historyAfter, outcomes}
 use Rattle.keeper.specs.Records.{Hold, hold}
-use Rattle.keeper.specs.Machine.{holdAfter, releasedFrom, reply, After, after, settled, heardAfter, stepOf, run}
+use Rattle.keeper.specs.Machine.{holdAfter, releasedFrom, reply, After, after, settled, heardAfter, stepOf}
+use Rattle.keeper.specs.Runs.{run}
 use Rattle.keeper.proofs.Pieces.{length-records}
 use Rattle.keeper.proofs.Agreement.{Agrees, same-released, same-answer, version-after, hold-is, kept-after}
 

@@ -96,9 +96,7 @@ fn step_act<'a>(
 {
     let at = *held;
     let place = stages::place_in(head);
-    let answer = stages::judge_act(
-        head, xids, marks, keys, tags, identities, columns, a, bytes,
-    );
+    let answer = stages::judge_act(head, xids, marks, keys, tags, identities, columns, a, bytes);
     let d = holding::deed_of(a);
     let Reply {
         answer: said,
@@ -145,7 +143,19 @@ fn step_lent<'a>(
         }
         Looked::Change { oid, xid, tuples } => {
             let answer = step_change(
-                head, xids, marks, keys, tags, identities, columns, oid, xid, tuples, bytes, buffer, held,
+                head,
+                xids,
+                marks,
+                keys,
+                tags,
+                identities,
+                columns,
+                oid,
+                xid,
+                tuples,
+                bytes,
+                buffer,
+                held,
             );
             Reply {
                 answer,
@@ -153,7 +163,19 @@ fn step_lent<'a>(
             }
         }
         Looked::Other(a) => step_act(
-            head, xids, marks, keys, tags, identities, columns, a, bytes, tag, buffer, held, out,
+            head,
+            xids,
+            marks,
+            keys,
+            tags,
+            identities,
+            columns,
+            a,
+            bytes,
+            tag,
+            buffer,
+            held,
+            out,
         ),
     }
 }
