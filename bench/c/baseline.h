@@ -1,4 +1,4 @@
-/* A hand-written decoder, writer and session in C: the same layouts, checks, refusals and rules as Kitsoriqu. */
+/* A hand-written decoder, writer, session and keeper in C: the same layouts, checks, refusals and rules as Kitsoriqu. */
 #ifndef BASELINE_H
 #define BASELINE_H
 
@@ -11,7 +11,7 @@
 #define MOST_RELATIONS 256
 
 /* The refusals, numbered as in kitsoriqu.h. */
-enum { VERSION = 1, SHORT, KIND, FIELD, LEFT_OVER, RANGE, PLACE, TRANSACTION, RELATION, SHAPE, ANNOUNCEMENTS, STREAMS, OUTPUT };
+enum { VERSION = 1, SHORT, KIND, FIELD, LEFT_OVER, RANGE, PLACE, TRANSACTION, RELATION, SHAPE, ANNOUNCEMENTS, STREAMS, OUTPUT, KEEPER };
 
 typedef struct { uint32_t number; size_t offset; } refusal;
 typedef struct { const uint8_t *at; size_t length; } span;
@@ -57,5 +57,10 @@ typedef struct {
 typedef struct { bool change; announcement of; } answer;
 void c_session_start(session *s, uint32_t version);
 bool c_session_give(session *s, const uint8_t *bytes, size_t length, uint64_t tag, answer *a, refusal *why);
+
+/* `released`: how many bytes went to the start of out. */
+typedef struct { uint8_t *buffer; size_t room, held; } keeper;
+bool c_keeper_give(session *s, keeper *k, const uint8_t *bytes, size_t length, uint64_t tag, uint8_t *out, size_t room, answer *a,
+                   size_t *released, refusal *why);
 
 #endif

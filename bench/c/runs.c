@@ -58,6 +58,11 @@ static session checked;
 
 void c_check_session_start(uint32_t version) { c_session_start(&checked, version); }
 
+static void put_answer(answer a, uint64_t out[4])
+{
+    if (a.change) FLAT(1, a.of.tag, a.of.identity, a.of.columns);
+}
+
 uint32_t c_check_session_give(const uint8_t *bytes, size_t length, uint64_t tag, uint64_t out[4])
 {
     answer a;
@@ -67,7 +72,30 @@ uint32_t c_check_session_give(const uint8_t *bytes, size_t length, uint64_t tag,
         out[0] = why.offset;
         return why.number;
     }
-    if (a.change) FLAT(1, a.of.tag, a.of.identity, a.of.columns);
+    put_answer(a, out);
+    return 0;
+}
+
+static struct { session session; keeper keeper; } kept, kept_copy;
+
+void c_check_keeper_start(uint32_t version, uint8_t *buffer, size_t room)
+{
+    c_session_start(&kept.session, version);
+    kept.keeper = (keeper){buffer, room, 0};
+}
+
+uint32_t c_check_keeper_give(const uint8_t *bytes, size_t length, uint64_t tag, uint8_t *out, size_t room, uint64_t reply[5])
+{
+    answer a;
+    size_t released;
+    refusal why;
+    memset(reply, 0, 5 * sizeof *reply);
+    if (!c_keeper_give(&kept.session, &kept.keeper, bytes, length, tag, out, room, &a, &released, &why)) {
+        reply[0] = why.offset;
+        return why.number;
+    }
+    put_answer(a, reply);
+    reply[4] = released;
     return 0;
 }
 
@@ -123,6 +151,40 @@ void c_copy_session(void)
 void c_run_copies(span message, totals *t)
 {
     for (size_t i = 0; i < COPIES; i++) give(&copies[i], message, 0, t);
+}
+
+static void give_kept(session *s, keeper *k, span message, uint64_t tag, uint8_t *out, size_t room, totals *t)
+{
+    answer a;
+    size_t released;
+    refusal why;
+    if (c_keeper_give(s, k, message.at, message.length, tag, out, room, &a, &released, &why)) {
+        t->accepted++;
+        t->sum += released;
+        if (a.change) t->sum += a.of.tag;
+    } else {
+        keep(&why);
+        t->refused++;
+    }
+}
+
+void c_run_keeper(const span *messages, size_t count, uint8_t *out, size_t room, totals *t)
+{
+    for (size_t i = 0; i < count; i++) give_kept(&kept.session, &kept.keeper, messages[i], i, out, room, t);
+    keep(out);
+}
+
+void c_copy_keeper(uint8_t *buffer)
+{
+    kept_copy = kept;
+    memcpy(buffer, kept.keeper.buffer, kept.keeper.room);
+    kept_copy.keeper.buffer = buffer;
+}
+
+void c_run_keeper_copy(span message, uint8_t *out, size_t room, totals *t)
+{
+    give_kept(&kept_copy.session, &kept_copy.keeper, message, 0, out, room, t);
+    keep(out);
 }
 
 static message batch[BATCH];

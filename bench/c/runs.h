@@ -9,6 +9,8 @@ uint32_t c_check_read(uint32_t version, uint32_t in_block, const uint8_t *bytes,
 uint32_t c_check_write_back(uint32_t version, uint32_t in_block, const uint8_t *bytes, size_t length, uint8_t *out, size_t room, uint64_t *result);
 void c_check_session_start(uint32_t version);
 uint32_t c_check_session_give(const uint8_t *bytes, size_t length, uint64_t tag, uint64_t answer[4]);
+void c_check_keeper_start(uint32_t version, uint8_t *buffer, size_t room);
+uint32_t c_check_keeper_give(const uint8_t *bytes, size_t length, uint64_t tag, uint8_t *out, size_t room, uint64_t reply[5]);
 
 /* RUNS over a list of messages. */
 typedef struct { uint64_t accepted, refused, sum; } totals;
@@ -25,5 +27,10 @@ void c_run_steps(totals *t);
 #define COPIES 32
 void c_copy_session(void);
 void c_run_copies(span message, totals *t);
+
+/* By the session and keeper that `c_check_keeper_start` started; or by a copy of them, with a buffer of its own. */
+void c_run_keeper(const span *messages, size_t count, uint8_t *out, size_t room, totals *t);
+void c_copy_keeper(uint8_t *buffer);
+void c_run_keeper_copy(span message, uint8_t *out, size_t room, totals *t);
 
 #endif

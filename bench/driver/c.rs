@@ -1,12 +1,16 @@
 //! The C baseline; its loops are in C too (bench/c/runs.h).
-use crate::contender::{Contender, Refused, Totals};
+use crate::contender::{touched, Contender, Refused, Totals};
 use crate::feed::{Feed, Span};
 
-pub struct C;
+/// The buffers of its keeper and of the keeper's copy.
+pub struct C {
+    buffer: Vec<u8>,
+    buffer_copy: Vec<u8>,
+}
 
 impl C {
     pub fn new() -> C {
-        C
+        C { buffer: vec![], buffer_copy: vec![] }
     }
 }
 
@@ -16,6 +20,8 @@ extern "C" {
         -> u32;
     fn c_check_session_start(version: u32);
     fn c_check_session_give(bytes: *const u8, length: usize, tag: u64, answer: *mut u64) -> u32;
+    fn c_check_keeper_start(version: u32, buffer: *mut u8, room: usize);
+    fn c_check_keeper_give(bytes: *const u8, length: usize, tag: u64, out: *mut u8, room: usize, reply: *mut u64) -> u32;
     fn c_run_read(version: u32, messages: *const Span, count: usize, totals: *mut Totals);
     fn c_run_session(version: u32, messages: *const Span, count: usize, totals: *mut Totals);
     fn c_fill(version: u32, in_block: *mut u32, messages: *const Span, count: usize);
@@ -23,9 +29,13 @@ extern "C" {
     fn c_run_steps(totals: *mut Totals);
     fn c_copy_session();
     fn c_run_copies(message: Span, totals: *mut Totals);
+    fn c_run_keeper(messages: *const Span, count: usize, out: *mut u8, room: usize, totals: *mut Totals);
+    fn c_copy_keeper(buffer: *mut u8);
+    fn c_run_keeper_copy(message: Span, out: *mut u8, room: usize, totals: *mut Totals);
 }
 
-// Every pointer below is a slice's or an array's, with its length; the driver has one thread, and the messages outlive the run.
+// Every pointer below is a slice's or an array's, with its length; the driver has one thread, and the messages outlive the run. C keeps
+// the pointers to the two buffers, which stand until others are given.
 impl<'a> Contender<'a> for C {
     fn name(&self) -> &'static str {
         "C"
@@ -61,6 +71,20 @@ impl<'a> Contender<'a> for C {
         match unsafe { c_check_session_give(bytes.as_ptr(), bytes.len(), tag, answer.as_mut_ptr()) } {
             0 => Ok(answer),
             number => Err((number, answer[0])),
+        }
+    }
+
+    fn keeper_start(&mut self, version: u32, room: usize) {
+        self.buffer = touched(room);
+        self.buffer_copy = touched(room);
+        unsafe { c_check_keeper_start(version, self.buffer.as_mut_ptr(), room) }
+    }
+
+    fn keeper_give(&mut self, bytes: &[u8], tag: u64, out: &mut [u8]) -> Result<[u64; 5], Refused> {
+        let mut reply = [0; 5];
+        match unsafe { c_check_keeper_give(bytes.as_ptr(), bytes.len(), tag, out.as_mut_ptr(), out.len(), reply.as_mut_ptr()) } {
+            0 => Ok(reply),
+            number => Err((number, reply[0])),
         }
     }
 
@@ -101,6 +125,22 @@ impl<'a> Contender<'a> for C {
     fn give_copies(&mut self, message: &[u8]) -> Totals {
         let mut totals = Totals::default();
         unsafe { c_run_copies(Span::of(message), &mut totals) };
+        totals
+    }
+
+    fn keeper(&mut self, feed: &Feed<'a>, out: &mut [u8]) -> Totals {
+        let mut totals = Totals::default();
+        unsafe { c_run_keeper(feed.spans.as_ptr(), feed.spans.len(), out.as_mut_ptr(), out.len(), &mut totals) };
+        totals
+    }
+
+    fn copy_keeper(&mut self) {
+        unsafe { c_copy_keeper(self.buffer_copy.as_mut_ptr()) }
+    }
+
+    fn give_keeper_copy(&mut self, message: &[u8], out: &mut [u8]) -> Totals {
+        let mut totals = Totals::default();
+        unsafe { c_run_keeper_copy(Span::of(message), out.as_mut_ptr(), out.len(), &mut totals) };
         totals
     }
 }

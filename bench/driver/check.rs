@@ -1,5 +1,5 @@
 //! The contenders must agree: on what each message is, on each refusal, on what is written, and on each answer of a session.
-use crate::contender::{block_after, Contender};
+use crate::contender::{block_after, Contender, Refused};
 use crate::feed::Feed;
 
 /// How many messages a session accepts.
@@ -20,6 +20,29 @@ pub fn agree<'a>(contenders: &mut [Box<dyn Contender<'a> + 'a>], feed: &Feed<'a>
         }
     }
     accepted
+}
+
+/// How often a change has no room in a keeper of so much room, and how often an output of 1,000 bytes is too short; the message is then
+/// given again with a longer one.
+pub fn agree_kept<'a>(contenders: &mut [Box<dyn Contender<'a> + 'a>], feed: &Feed<'a>, room: usize) -> [usize; 2] {
+    let [mut no_room, mut short] = [0; 2];
+    contenders.iter_mut().for_each(|contender| contender.keeper_start(feed.version, room));
+    for (index, bytes) in feed.messages.iter().enumerate() {
+        let mut reply = same(contenders, index, |contender| kept(contender, index, bytes, 1_000));
+        if reply == Err((13, 0)) {
+            short += 1;
+            reply = same(contenders, index, |contender| kept(contender, index, bytes, room));
+        }
+        no_room += usize::from(reply == Err((14, 0)));
+        assert!(reply.is_ok() || no_room > 0, "message {index}: {reply:?}");
+    }
+    [no_room, short]
+}
+
+/// The reply, and the whole output.
+fn kept<'a>(contender: &mut Box<dyn Contender<'a> + 'a>, index: usize, bytes: &[u8], room: usize) -> Result<([u64; 5], Vec<u8>), Refused> {
+    let mut out = vec![0xA5; room];
+    contender.keeper_give(bytes, index as u64, &mut out).map(|reply| (reply, out))
 }
 
 /// A message cut short, and one with a byte changed.

@@ -17,7 +17,7 @@ pub struct Totals {
     /// Messages, or columns where those are stepped through.
     pub accepted: u64,
     pub refused: u64,
-    /// Of the tags that a session answers, the lengths that were written, or the lengths of values.
+    /// Of the tags that a session answers and the bytes that a keeper releases, the lengths that were written, or the lengths of values.
     pub sum: u64,
 }
 
@@ -42,6 +42,10 @@ pub trait Contender<'a> {
     fn session_start(&mut self, version: u32);
     /// 1, tag, identity and column count for a change; zeros for another message.
     fn session_give(&mut self, bytes: &[u8], tag: u64) -> Result<[u64; 4], Refused>;
+    /// Starts a session with a keeper of so much room.
+    fn keeper_start(&mut self, version: u32, room: usize);
+    /// The same numbers, and how many bytes are released to the start of the output.
+    fn keeper_give(&mut self, bytes: &[u8], tag: u64, out: &mut [u8]) -> Result<[u64; 5], Refused>;
 
     // what is measured
 
@@ -54,6 +58,16 @@ pub trait Contender<'a> {
     /// Copies the session that `session_give` was given to (not measured).
     fn copy_session(&mut self);
     fn give_copies(&mut self, message: &[u8]) -> Totals;
+    /// By the session and keeper that `keeper_start` started.
+    fn keeper(&mut self, feed: &Feed<'a>, out: &mut [u8]) -> Totals;
+    /// Copies them (not measured).
+    fn copy_keeper(&mut self);
+    fn give_keeper_copy(&mut self, message: &[u8], out: &mut [u8]) -> Totals;
+}
+
+/// So many bytes, all written to, so that no page is missing when they are measured.
+pub fn touched(length: usize) -> Vec<u8> {
+    vec![0xA5; length]
 }
 
 /// Whether the next message stands in a block, after one whose flat form has this kind.

@@ -1,4 +1,5 @@
 //! The messages that are measured.
+use crate::imports::is_change;
 
 /// A part of memory as C sees it.
 #[repr(C)]
@@ -33,6 +34,11 @@ impl<'a> Feed<'a> {
     pub fn of(made: &'a Made) -> Feed<'a> {
         Feed::new(made.name.clone(), made.version, made.messages.iter().map(|message| &message[..]).collect())
     }
+
+    /// How many bytes the records of all changes in blocks have, where there are no others.
+    pub fn records(&self) -> usize {
+        self.messages.iter().filter(|message| is_change(message)).map(|message| 14 + message.len()).sum()
+    }
 }
 
 /// A feed that was made, not recorded.
@@ -48,4 +54,10 @@ pub struct Feeds<'a> {
     pub spread: Vec<Feed<'a>>,
     /// Streamed transactions, each with its end.
     pub ends: Vec<Feed<'a>>,
+    /// Two imports after two, which stream in turns and end.
+    pub imports: Feed<'a>,
+    /// Two imports that do not end.
+    pub open_imports: Feed<'a>,
+    /// Two imports of which one commits, shorter and longer ones.
+    pub releases: Vec<Feed<'a>>,
 }

@@ -13,6 +13,7 @@ mod c;
 mod check;
 mod contender;
 mod feed;
+mod imports;
 mod measure;
 mod messages;
 mod ours;
@@ -27,6 +28,12 @@ use measure::Contenders;
 
 /// Over how many tables the feed's changes are spread; a session has room for 256.
 const TABLES: [usize; 4] = [1, 16, 250, 256];
+
+/// Of which of them the imports are made.
+const IMPORTED: usize = 1;
+
+/// How many records of one import and of another are held when the first commits.
+const RELEASED: [usize; 3] = [250, 1_000, 4_000];
 
 const USAGE: &str = "usage: driver check|time|table TRACE [ROUNDS|FILE...]";
 
@@ -43,7 +50,26 @@ fn check_and_tell<'a>(contenders: &mut Contenders<'a>, feeds: &Feeds<'a>) {
     for feed in &feeds.ends {
         accepted(feed);
     }
+    for feed in [&feeds.imports, &feeds.open_imports].into_iter().chain(&feeds.releases) {
+        assert_eq!(accepted(feed), feed.messages.len(), "{}: all is accepted", feed.name);
+    }
     println!("all agree on every message, and on two damaged copies of each");
+    check_keepers(contenders, feeds);
+}
+
+/// With room for all, and with too little for the imports.
+fn check_keepers<'a>(contenders: &mut Contenders<'a>, feeds: &Feeds<'a>) {
+    let mut agree = |feed: &Feed<'a>, room: usize| {
+        let [no_room, short] = check::agree_kept(contenders, feed, room);
+        println!("{} with a keeper of {room} bytes: {no_room} changes have no room, {short} outputs are too short", feed.name);
+        [no_room, short]
+    };
+    for feed in [&feeds.open_imports].into_iter().chain(&feeds.releases) {
+        assert_eq!(agree(feed, feed.records())[0], 0);
+    }
+    assert!(agree(&feeds.imports, feeds.imports.records())[1] > 0);
+    assert!(agree(&feeds.imports, 30_000)[0] > 0);
+    println!("all agree on every reply, and on all that is released");
 }
 
 fn main() {
@@ -56,11 +82,18 @@ fn main() {
     let messages = trace::messages(&bytes).unwrap_or_else(|offset| panic!("{path}: no record at {offset}"));
     let spread = TABLES.map(|tables| spread::spread(version, &messages, tables));
     let ends = stream::ends();
+    let parts = imports::Parts::of(&spread[IMPORTED]);
+    let imports = imports::imports(&parts);
+    let open_imports = imports::open_imports(&parts, 2_000);
+    let releases = RELEASED.map(|changes| imports::committed_import(&parts, changes));
     let name = std::path::Path::new(path).file_name().unwrap().display().to_string();
     let feeds = Feeds {
         recorded: Feed::new(name, version, messages),
         spread: spread.iter().map(Feed::of).collect(),
         ends: ends.iter().map(Feed::of).collect(),
+        imports: Feed::of(&imports),
+        open_imports: Feed::of(&open_imports),
+        releases: releases.iter().map(Feed::of).collect(),
     };
 
     let mut contenders: Contenders = vec![Box::new(ours::Ours::new()), Box::new(rust::Rust::new()), Box::new(c::C::new())];

@@ -24,8 +24,8 @@ pub fn insert(xid: &[u8], oid: u32) -> Vec<u8> {
     [b"I", xid, &oid.to_be_bytes(), b"N\0\x01n"].concat()
 }
 
-pub fn first_stream_start(xid: &[u8]) -> Vec<u8> {
-    [b"S", xid, b"\x01"].concat()
+pub fn stream_start(xid: &[u8], first: bool) -> Vec<u8> {
+    [b"S", xid, &[first.into()]].concat()
 }
 
 pub fn stream_stop() -> Vec<u8> {
@@ -36,7 +36,7 @@ pub fn stream_commit(xid: &[u8]) -> Vec<u8> {
     [b"c", xid, b"\0", &1u64.to_be_bytes(), &2u64.to_be_bytes(), &0u64.to_be_bytes()].concat()
 }
 
-/// Of the whole transaction.
-pub fn stream_abort(xid: &[u8]) -> Vec<u8> {
-    [b"A", xid, xid].concat()
+/// Of the whole transaction where both are the same.
+pub fn stream_abort(xid: &[u8], sub_xid: &[u8]) -> Vec<u8> {
+    [b"A", xid, sub_xid].concat()
 }

@@ -1,5 +1,5 @@
 //! Kitsoriqu, by its C functions.
-use crate::contender::{block_after, Contender, Refused, Totals, COPIES};
+use crate::contender::{block_after, touched, Contender, Refused, Totals, COPIES};
 use crate::feed::{Feed, Span};
 use crate::ffi::{self, Record};
 use std::hint::black_box;
@@ -7,7 +7,25 @@ use std::hint::black_box;
 pub struct Ours<'a> {
     session: Record,
     copies: Vec<Record>,
+    kept: Kept,
+    kept_copy: Kept,
     batch: Vec<Read<'a>>,
+}
+
+/// A session with a keeper.
+#[derive(Clone)]
+struct Kept {
+    session: Record,
+    buffer: Vec<u8>,
+    held: usize,
+}
+
+impl Kept {
+    const NONE: Kept = Kept { session: Record::ZERO, buffer: vec![], held: 0 };
+
+    fn give(&mut self, bytes: &[u8], tag: u64, out: &mut [u8], reply: &mut [u64; ffi::REPLY]) -> u32 {
+        ffi::keeper_give(&mut self.session, bytes, tag, &mut self.buffer, &mut self.held, out, reply)
+    }
 }
 
 /// A message that was read.
@@ -22,7 +40,7 @@ const OLD_TUPLE: u32 = 1;
 
 impl Ours<'_> {
     pub fn new() -> Self {
-        Ours { session: Record::ZERO, copies: vec![], batch: vec![] }
+        Ours { session: Record::ZERO, copies: vec![], kept: Kept::NONE, kept_copy: Kept::NONE, batch: vec![] }
     }
 }
 
@@ -56,6 +74,17 @@ fn give(session: &mut Record, bytes: &[u8], tag: u64, answer: &mut [u64; ffi::AN
     }
 }
 
+fn give_kept(kept: &mut Kept, bytes: &[u8], tag: u64, out: &mut [u8], reply: &mut [u64; ffi::REPLY], totals: &mut Totals) {
+    let number = kept.give(bytes, tag, out, reply);
+    black_box(&*reply);
+    if number == 0 {
+        totals.accepted += 1;
+        totals.sum += reply[1] + reply[4];
+    } else {
+        totals.refused += 1;
+    }
+}
+
 impl<'a> Contender<'a> for Ours<'a> {
     fn name(&self) -> &'static str {
         "Kitsoriqu"
@@ -84,6 +113,18 @@ impl<'a> Contender<'a> for Ours<'a> {
         let mut answer = [0; ffi::ANSWER];
         let number = ffi::session_give(&mut self.session, bytes, tag, &mut answer);
         settle(number, answer[0], answer)
+    }
+
+    fn keeper_start(&mut self, version: u32, room: usize) {
+        ffi::session_start(&mut self.kept.session, version);
+        self.kept.buffer = touched(room);
+        self.kept.held = 0;
+    }
+
+    fn keeper_give(&mut self, bytes: &[u8], tag: u64, out: &mut [u8]) -> Result<[u64; 5], Refused> {
+        let mut reply = [0; ffi::REPLY];
+        let number = self.kept.give(bytes, tag, out, &mut reply);
+        settle(number, reply[0], reply)
     }
 
     fn read(&self, feed: &Feed<'a>) -> Totals {
@@ -171,6 +212,27 @@ impl<'a> Contender<'a> for Ours<'a> {
         for session in &mut self.copies {
             give(session, message, 0, &mut answer, &mut totals);
         }
+        totals
+    }
+
+    fn keeper(&mut self, feed: &Feed<'a>, out: &mut [u8]) -> Totals {
+        let mut totals = Totals::default();
+        let mut reply = [0; ffi::REPLY];
+        for (bytes, tag) in feed.messages.iter().zip(0..) {
+            give_kept(&mut self.kept, bytes, tag, out, &mut reply, &mut totals);
+        }
+        black_box(out);
+        totals
+    }
+
+    fn copy_keeper(&mut self) {
+        self.kept_copy.clone_from(&self.kept);
+    }
+
+    fn give_keeper_copy(&mut self, message: &[u8], out: &mut [u8]) -> Totals {
+        let mut totals = Totals::default();
+        give_kept(&mut self.kept_copy, message, 0, out, &mut [0; ffi::REPLY], &mut totals);
+        black_box(out);
         totals
     }
 }

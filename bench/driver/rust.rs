@@ -1,18 +1,21 @@
 //! The Rust baseline.
 use crate::contender::{Contender, Refused, Totals, COPIES};
 use crate::feed::{Feed, Span};
-use baseline::{read_message, write_message, Column, Message, Refusal, Session, Tuple};
+use baseline::{read_message, write_message, Announcement, Column, Keeper, Message, Refusal, Session, Tuple};
 use std::hint::black_box;
 
 pub struct Rust<'a> {
     session: Session,
     copies: Vec<Session>,
+    kept: (Session, Keeper),
+    kept_copy: (Session, Keeper),
     batch: Vec<(bool, Message<'a>)>,
 }
 
 impl Rust<'_> {
     pub fn new() -> Self {
-        Rust { session: Session::new(1), copies: vec![], batch: vec![] }
+        let none = (Session::new(1), Keeper::new(0));
+        Rust { session: Session::new(1), copies: vec![], kept: none.clone(), kept_copy: none, batch: vec![] }
     }
 }
 
@@ -95,6 +98,23 @@ fn give(session: &mut Session, bytes: &[u8], tag: u64, totals: &mut Totals) {
     }
 }
 
+fn give_kept((session, keeper): &mut (Session, Keeper), bytes: &[u8], tag: u64, out: &mut [u8], totals: &mut Totals) {
+    let reply = keeper.give(session, bytes, tag, out);
+    black_box(&reply);
+    match reply {
+        Ok((seen, released)) => {
+            totals.accepted += 1;
+            totals.sum += seen.map_or(0, |seen| seen.tag) + released as u64;
+        }
+        Err(_) => totals.refused += 1,
+    }
+}
+
+/// 1, tag, identity and column count for a change; zeros for another message.
+fn numbers(seen: Option<Announcement>) -> [u64; 4] {
+    seen.map_or([0; 4], |seen| [1, seen.tag, seen.identity.into(), seen.columns.into()])
+}
+
 impl<'a> Contender<'a> for Rust<'a> {
     fn name(&self) -> &'static str {
         "Rust"
@@ -117,8 +137,18 @@ impl<'a> Contender<'a> for Rust<'a> {
     }
 
     fn session_give(&mut self, bytes: &[u8], tag: u64) -> Result<[u64; 4], Refused> {
-        let seen = self.session.give(bytes, tag).map_err(refused)?;
-        Ok(seen.map_or([0; 4], |seen| [1, seen.tag, seen.identity.into(), seen.columns.into()]))
+        self.session.give(bytes, tag).map(numbers).map_err(refused)
+    }
+
+    fn keeper_start(&mut self, version: u32, room: usize) {
+        self.kept = (Session::new(version), Keeper::new(room));
+    }
+
+    fn keeper_give(&mut self, bytes: &[u8], tag: u64, out: &mut [u8]) -> Result<[u64; 5], Refused> {
+        let (session, keeper) = &mut self.kept;
+        let (seen, released) = keeper.give(session, bytes, tag, out).map_err(refused)?;
+        let [a, b, c, d] = numbers(seen);
+        Ok([a, b, c, d, released as u64])
     }
 
     fn read(&self, feed: &Feed<'a>) -> Totals {
@@ -203,6 +233,26 @@ impl<'a> Contender<'a> for Rust<'a> {
         for session in &mut self.copies {
             give(session, message, 0, &mut totals);
         }
+        totals
+    }
+
+    fn keeper(&mut self, feed: &Feed<'a>, out: &mut [u8]) -> Totals {
+        let mut totals = Totals::default();
+        for (bytes, tag) in feed.messages.iter().zip(0..) {
+            give_kept(&mut self.kept, bytes, tag, out, &mut totals);
+        }
+        black_box(out);
+        totals
+    }
+
+    fn copy_keeper(&mut self) {
+        self.kept_copy.clone_from(&self.kept);
+    }
+
+    fn give_keeper_copy(&mut self, message: &[u8], out: &mut [u8]) -> Totals {
+        let mut totals = Totals::default();
+        give_kept(&mut self.kept_copy, message, 0, out, &mut totals);
+        black_box(out);
         totals
     }
 }

@@ -1,6 +1,6 @@
 //! A streamed transaction of many announcements beside common ones, and its end.
 use crate::feed::Made;
-use crate::messages::{begin, commit, first_stream_start, insert, relation, stream_abort, stream_commit, stream_stop, ONE_COLUMN};
+use crate::messages::{begin, commit, insert, relation, stream_abort, stream_commit, stream_start, stream_stop, ONE_COLUMN};
 use std::iter::once;
 use std::ops::Range;
 
@@ -22,7 +22,7 @@ fn transaction(inside: impl Iterator<Item = Vec<u8>>) -> Vec<Vec<u8>> {
 
 /// The first block of the streamed transaction.
 fn block(inside: impl Iterator<Item = Vec<u8>>) -> Vec<Vec<u8>> {
-    once(first_stream_start(XID)).chain(inside).chain([stream_stop()]).collect()
+    once(stream_start(XID, true)).chain(inside).chain([stream_stop()]).collect()
 }
 
 /// After the end, Inserts into all tables tell what is common and what is still the streamed transaction's own.
@@ -39,7 +39,7 @@ fn ended(name: &str, end: Vec<u8>) -> Made {
 
 /// The streamed transaction with each of its ends.
 pub fn ends() -> [Made; 2] {
-    [ended("Stream Commit", stream_commit(XID)), ended("Stream Abort", stream_abort(XID))]
+    [ended("Stream Commit", stream_commit(XID)), ended("Stream Abort", stream_abort(XID, XID))]
 }
 
 /// Where the end stands.

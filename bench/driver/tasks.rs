@@ -1,5 +1,5 @@
 //! What is timed.
-use crate::contender::{Contender, Totals, BATCH, COPIES};
+use crate::contender::{touched, Contender, Totals, BATCH, COPIES};
 use crate::feed::{Feed, Feeds};
 use crate::stream::end_of;
 use std::hint::black_box;
@@ -32,12 +32,25 @@ impl<'f, 'a> Task<'f, 'a> {
         let bytes = messages * feed.messages[end_of(&feed.messages)].len();
         Task { title: feed.name.clone(), feed, run: ending, messages, bytes }
     }
+
+    /// Given to a session alone, and to one with a keeper.
+    fn held(feed: &'f Feed<'a>) -> [Self; 2] {
+        let [alone, kept] = ["session alone", "with a keeper"].map(|what| format!("{}, {what}", feed.name));
+        [Task::whole(&alone, feed, session), Task::whole(&kept, feed, keeping)]
+    }
+
+    fn release(feed: &'f Feed<'a>) -> Self {
+        Task { title: feed.name.clone(), feed, run: releasing, messages: RELEASES, bytes: RELEASES * feed.records() }
+    }
 }
 
 pub fn tasks<'f, 'a>(feeds: &'f Feeds<'a>) -> Vec<Task<'f, 'a>> {
     let mut tasks = vec![Task::whole("reading", &feeds.recorded, reading), Task::whole("reading and session", &feeds.recorded, session)];
     tasks.extend(feeds.spread.iter().map(Task::tables));
     tasks.extend(feeds.ends.iter().map(Task::end));
+    tasks.extend(Task::held(&feeds.open_imports));
+    tasks.extend(Task::held(&feeds.imports));
+    tasks.extend(feeds.releases.iter().map(Task::release));
     tasks.push(Task::whole("writing back", &feeds.recorded, writing));
     tasks.push(Task::whole("stepping through all columns", &feeds.recorded, stepping));
     tasks
@@ -72,6 +85,32 @@ fn ending<'a>(contender: &mut dyn Contender<'a>, feed: &Feed<'a>) -> (Duration, 
         timed(|| contender.give_copies(feed.messages[end]))
     };
     let (time, totals) = all((0..POOLS).map(pool));
+    assert_eq!(totals.refused, 0, "{}: the end is accepted", feed.name);
+    (time, totals)
+}
+
+fn keeping<'a>(contender: &mut dyn Contender<'a>, feed: &Feed<'a>) -> (Duration, Totals) {
+    let mut out = touched(feed.records());
+    contender.keeper_start(feed.version, feed.records());
+    timed(|| contender.keeper(feed, &mut out))
+}
+
+/// How often the session and keeper are copied and given a message.
+const RELEASES: usize = 16;
+
+/// A Stream Commit alone, given to copies of the session and keeper that stand before it.
+fn releasing<'a>(contender: &mut dyn Contender<'a>, feed: &Feed<'a>) -> (Duration, Totals) {
+    let end = end_of(&feed.messages);
+    let mut out = touched(feed.records());
+    contender.keeper_start(feed.version, feed.records());
+    for (bytes, tag) in feed.messages[..end].iter().zip(0..) {
+        contender.keeper_give(bytes, tag, &mut out).expect("all is accepted before the end");
+    }
+    let copy = |_| {
+        contender.copy_keeper();
+        timed(|| contender.give_keeper_copy(feed.messages[end], &mut out))
+    };
+    let (time, totals) = all((0..RELEASES).map(copy));
     assert_eq!(totals.refused, 0, "{}: the end is accepted", feed.name);
     (time, totals)
 }

@@ -1,12 +1,14 @@
-//! What Kitsoriqu is measured against: a decoder, writer and session in idiomatic safe Rust (slices, `Result`, a typed enum with borrowed
+//! What Kitsoriqu is measured against: a decoder, writer, session and keeper in idiomatic safe Rust (slices, `Result`, a typed enum with borrowed
 //! parts, hash maps), with the same layouts, checks, refusals and rules.
 #![forbid(unsafe_code)]
 
 mod cursor;
+mod keeper;
 mod read;
 mod session;
 mod write;
 
+pub use keeper::Keeper;
 pub use read::read_message;
 pub use session::{Announcement, Session};
 pub use write::write_message;
@@ -35,6 +37,7 @@ impl Refusal {
     pub const ANNOUNCEMENTS: u8 = 11;
     pub const STREAMS: u8 = 12;
     pub const OUTPUT: u8 = 13;
+    pub const KEEPER: u8 = 14;
 }
 
 pub type Result<T> = std::result::Result<T, Refusal>;

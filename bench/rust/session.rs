@@ -69,6 +69,14 @@ impl Session {
         Ok(None)
     }
 
+    /// The streamed transaction whose block stands here.
+    pub fn block(&self) -> Option<u32> {
+        match self.place {
+            Place::Block { xid } => Some(xid),
+            _ => None,
+        }
+    }
+
     /// Where it is noted that the transaction that stands here had a change.
     fn changed(&mut self) -> Result<&mut bool> {
         match self.place {

@@ -1,14 +1,15 @@
-//! The seven C functions and the safe calls to them: all the unsafe code there is. `include/kitsoriqu.h` says what each answers.
+//! The eight C functions and the safe calls to them: all the unsafe code there is. `include/kitsoriqu.h` says what each answers.
 //!
 //! The header asks of a caller that each pointer is good for the length that comes with it, and that what is written does not overlap
 //! what is read. References give both: a slice's pointer is good for its length (and is not null where that is 0), an array's for its
 //! numbers, and a `&mut` overlaps nothing else. The functions keep no pointer after they return, and any content of what they are
 //! lent is answered.
 
-/// The numbers of a flat form, of a step and of an answer.
+/// The numbers of a flat form, of a step, of an answer and of a reply.
 pub const FLAT: usize = 16;
 pub const STEP: usize = 5;
 pub const ANSWER: usize = 4;
+pub const REPLY: usize = 5;
 
 /// What `column_step` returns when there is nothing left.
 pub const OVER: u32 = 255;
@@ -44,6 +45,18 @@ extern "C" {
     fn kq_session_start(session: *mut Record, version: u32);
     fn kq_session_start_default(session: *mut Record);
     fn kq_session_give(session: *mut Record, bytes: *const u8, len: usize, tag: u64, answer: *mut u64) -> u32;
+    fn kq_keeper_give(
+        session: *mut Record,
+        bytes: *const u8,
+        len: usize,
+        tag: u64,
+        buffer: *mut u8,
+        buffer_len: usize,
+        held: *mut usize,
+        out: *mut u8,
+        out_len: usize,
+        reply: *mut u64,
+    ) -> u32;
 }
 
 #[inline]
@@ -88,4 +101,20 @@ pub fn session_give(session: &mut Record, bytes: &[u8], tag: u64, answer: &mut [
     // SAFETY: as in `session_start`; `bytes` is read for its length; `answer` is ANSWER numbers. The `&mut` keeps a session from
     // being given two messages at once.
     unsafe { kq_session_give(session, bytes.as_ptr(), bytes.len(), tag, answer.as_mut_ptr()) }
+}
+
+#[inline]
+pub fn keeper_give(
+    session: &mut Record,
+    bytes: &[u8],
+    tag: u64,
+    buffer: &mut [u8],
+    held: &mut usize,
+    out: &mut [u8],
+    reply: &mut [u64; REPLY],
+) -> u32 {
+    let (at, length) = (buffer.as_mut_ptr(), buffer.len());
+    let (out_at, out_length) = (out.as_mut_ptr(), out.len());
+    // SAFETY: as in `session_give`; `buffer` and `out` are written for their lengths; `held` is one number and `reply` is REPLY.
+    unsafe { kq_keeper_give(session, bytes.as_ptr(), bytes.len(), tag, at, length, held, out_at, out_length, reply.as_mut_ptr()) }
 }

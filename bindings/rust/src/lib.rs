@@ -6,12 +6,14 @@
 mod ffi;
 
 mod fields;
+mod keeper;
 mod message;
 mod refusal;
 mod session;
 mod steps;
 
 pub use fields::{kind, write, Fields, Span};
+pub use keeper::{Keeper, Record, Records, Reply};
 pub use message::{read, Decoded, Identity, Message, OldTuple};
 pub use refusal::Refusal;
 pub use session::{Answer, Session};

@@ -32,8 +32,10 @@ impl Refusal {
     pub const ANNOUNCEMENTS: u32 = 11;
     /// There is no room for a streamed transaction.
     pub const STREAMS: u32 = 12;
-    /// The output is shorter than the message to be written.
+    /// The output is shorter than the message to be written, or than what a Stream Commit releases.
     pub const OUTPUT: u32 = 13;
+    /// There is no room for a change in the keeper's buffer.
+    pub const KEEPER: u32 = 14;
 
     /// The refusal in words.
     pub fn words(&self) -> &'static str {
@@ -51,6 +53,7 @@ impl Refusal {
             Refusal::ANNOUNCEMENTS => "there is no room for an announcement",
             Refusal::STREAMS => "there is no room for a streamed transaction",
             Refusal::OUTPUT => "the output is too short",
+            Refusal::KEEPER => "there is no room for a change in the keeper's buffer",
             _ => "no such refusal",
         }
     }

@@ -22,7 +22,7 @@ use std::fmt;
 /// ```
 #[derive(Clone)]
 pub struct Session {
-    record: ffi::Record,
+    pub(crate) record: ffi::Record,
 }
 
 /// What an accepted message is answered.
@@ -38,6 +38,17 @@ pub enum Answer {
     },
 }
 
+impl Answer {
+    /// Of what a session's function returned and filled in.
+    pub(crate) fn of(number: u32, numbers: [u64; ffi::ANSWER]) -> Result<Answer, Refusal> {
+        match (number, numbers) {
+            (0, [1, tag, identity, columns]) => Ok(Answer::Change { tag, identity: Identity::of(identity), columns: columns as u16 }),
+            (0, _) => Ok(Answer::Accepted),
+            (number, [offset, ..]) => Err(Refusal { number, offset }),
+        }
+    }
+}
+
 impl Session {
     /// Starts a session of a protocol version. With one that is not 1 or 2 it refuses every message.
     pub fn new(version: u32) -> Session {
@@ -51,11 +62,7 @@ impl Session {
     pub fn give(&mut self, bytes: &[u8], tag: u64) -> Result<Answer, Refusal> {
         let mut answer = [0; ffi::ANSWER];
         let number = ffi::session_give(&mut self.record, bytes, tag, &mut answer);
-        match (number, answer) {
-            (0, [1, tag, identity, columns]) => Ok(Answer::Change { tag, identity: Identity::of(identity), columns: columns as u16 }),
-            (0, _) => Ok(Answer::Accepted),
-            (number, [offset, ..]) => Err(Refusal { number, offset }),
-        }
+        Answer::of(number, answer)
     }
 }
 

@@ -1,5 +1,6 @@
-//! The recorded feeds of `crates/feeds`, each given to a fresh session: the answers are those that its program prints.
-use kitsoriqu::{read, write, Decoded, Message, Session};
+//! The recorded feeds of `crates/feeds`, each given to a fresh session: the answers are those that its program prints. The streamed ones
+//! are given to a keeper too.
+use kitsoriqu::{read, write, Decoded, Keeper, Message, Record, Session};
 use std::fmt::Write;
 use std::fs;
 use std::path::Path;
@@ -43,12 +44,16 @@ fn back(version: u32, messages: &[&[u8]]) {
     }
 }
 
+fn trace_of(name: &str) -> Vec<u8> {
+    fs::read(Path::new(FEEDS).join("data").join(name)).unwrap()
+}
+
 #[test]
 fn recorded_feeds() {
     let names = fs::read_to_string(Path::new(FEEDS).join("args")).unwrap();
     let mut printed = String::new();
     for name in names.lines() {
-        let bytes = fs::read(Path::new(FEEDS).join("data").join(name)).unwrap();
+        let bytes = trace_of(name);
         let messages = trace::messages(&bytes).unwrap();
         let version = trace::version(name).unwrap();
         back(version, &messages);
@@ -56,4 +61,81 @@ fn recorded_feeds() {
         printed += &answers(version, &messages);
     }
     assert_eq!(printed, fs::read_to_string(Path::new(FEEDS).join("stdout")).unwrap());
+}
+
+fn word(bytes: &[u8], at: usize) -> u32 {
+    u32::from_be_bytes(bytes[at..at + 4].try_into().unwrap())
+}
+
+/// Each change in a block, and which message it is.
+fn streamed_changes<'a>(messages: &[&'a [u8]]) -> Vec<(usize, Record<'a>)> {
+    let mut block = None;
+    let mut changes = vec![];
+    for (index, &message) in messages.iter().enumerate() {
+        match (message[0], block) {
+            (b'S', _) => block = Some(word(message, 1)),
+            (b'E', _) => block = None,
+            (b'I' | b'U' | b'D' | b'T', Some(top_xid)) => changes.push((index, Record { top_xid, own_xid: word(message, 1), message })),
+            _ => {}
+        }
+    }
+    changes
+}
+
+/// Whether a message releases or drops a record.
+fn ends(message: &[u8], record: &Record) -> bool {
+    match message[0] {
+        b'c' => word(message, 1) == record.top_xid,
+        b'A' => word(message, 1) == record.top_xid && [record.top_xid, record.own_xid].contains(&word(message, 5)),
+        _ => false,
+    }
+}
+
+/// What is held after so many messages: the changes in blocks that none of the later ones ended.
+fn held_after<'a>(count: usize, messages: &[&'a [u8]], changes: &[(usize, Record<'a>)]) -> Vec<Record<'a>> {
+    let is_held =
+        |(index, record): &&(usize, Record)| *index < count && !messages[*index..count].iter().any(|message| ends(message, record));
+    changes.iter().filter(is_held).map(|(_, record)| *record).collect()
+}
+
+/// Gives each message to a session with a keeper and to one alone, which answer alike. How many records were released, and how many dropped.
+fn released_and_dropped(version: u32, messages: &[&[u8]]) -> [usize; 2] {
+    let changes = streamed_changes(messages);
+    let room = changes.iter().map(|(_, record)| 14 + record.message.len()).sum();
+    let (mut session, mut alone) = (Session::new(version), Session::new(version));
+    let (mut keeper, mut out) = (Keeper::with_room(room), vec![0; room]);
+    let mut counts = [0; 2];
+    for (index, bytes) in messages.iter().enumerate() {
+        let reply = keeper.give(&mut session, bytes, index as u64, &mut out).unwrap();
+        assert_eq!(Ok(reply.answer), alone.give(bytes, index as u64));
+        let released: Vec<_> = reply.released.collect();
+        if let b'c' | b'A' = bytes[0] {
+            let mut ended = held_after(index, messages, &changes);
+            ended.retain(|record| ends(bytes, record));
+            assert_eq!(released, if bytes[0] == b'c' { ended.clone() } else { vec![] });
+            assert!(keeper.held_records().eq(held_after(index + 1, messages, &changes)));
+            counts[usize::from(bytes[0] == b'A')] += ended.len();
+        } else {
+            assert_eq!(released, []);
+        }
+    }
+    assert!(keeper.held_records().eq(held_after(messages.len(), messages, &changes)));
+    counts
+}
+
+#[test]
+fn streamed_feeds_with_a_keeper() {
+    // how many records are released and dropped
+    let feeds = [
+        ("stream_abort.v2peek.trace", [1200, 0]),
+        ("stream_marker.v2.trace", [900, 0]),
+        ("stream_subabort_drop_race.v2.trace", [300, 287]),
+        ("stream_unpublished.v2.trace", [300, 0]),
+        ("two_imports.v2.trace", [21, 25]),
+    ];
+    for (name, counts) in feeds {
+        let bytes = trace_of(name);
+        let messages = trace::messages(&bytes).unwrap();
+        assert_eq!(released_and_dropped(trace::version(name).unwrap(), &messages), counts, "{name}");
+    }
 }

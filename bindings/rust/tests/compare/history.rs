@@ -276,9 +276,20 @@ impl History {
 
     /// Reads and judges a message; an accepted one joins the list.
     pub fn give(&mut self, bytes: &[u8], tag: u64) -> Result<Option<Announcement>, Refused> {
+        self.give_if(bytes, tag, |_| Ok(()))
+    }
+
+    /// The same, but of those that are accepted here only what `more` accepts too, which is told the place.
+    pub fn give_if(
+        &mut self,
+        bytes: &[u8],
+        tag: u64,
+        more: impl FnOnce(Place) -> Result<(), Refused>,
+    ) -> Result<Option<Announcement>, Refused> {
         let flat = layouts::read(self.version, self.in_block(), bytes)?;
         let (event, answer) = self.judge(&flat, bytes, tag)?;
         let place = self.place();
+        more(place)?;
         self.entries.push(Entry { event, place });
         Ok(answer)
     }

@@ -29,6 +29,30 @@ impl<const N: usize> Lent<[u64; N]> {
     }
 }
 
+/// Longer than what is moved at once.
+const FENCE: [u8; 64] = [0xA5; 64];
+
+/// Bytes that are lent to a call, between marks too.
+pub struct LentBytes(Vec<u8>);
+
+impl LentBytes {
+    pub fn of(bytes: &[u8]) -> LentBytes {
+        LentBytes([&FENCE, bytes, &FENCE].concat())
+    }
+
+    pub fn value(&mut self) -> &mut [u8] {
+        let end = self.0.len() - FENCE.len();
+        &mut self.0[FENCE.len()..end]
+    }
+
+    /// What was lent, after the call.
+    pub fn back(mut self) -> Vec<u8> {
+        let value = black_box(&mut self).value().to_vec();
+        assert!(self.0.starts_with(&FENCE) && self.0.ends_with(&FENCE), "touched next to what was lent");
+        value
+    }
+}
+
 /// An offset and zeros: what a refusal fills in.
 pub fn refused<const N: usize>(offset: u64) -> [u64; N] {
     let mut numbers = [0; N];

@@ -4,14 +4,19 @@
 #[allow(dead_code)]
 mod ffi;
 
+mod answers;
+mod deeds;
 mod generate;
 mod history;
+mod kept;
 mod layouts;
 mod lent;
 mod moves;
 mod rng;
+mod sequences;
 mod tally;
 
+mod keepers;
 mod reading;
 mod sessions;
 mod stepping;

@@ -1,191 +1,17 @@
+use crate::answers::{numbers_of, typed_numbers};
 use crate::ffi::{self, Record};
-use crate::generate::{damage, message, Draft};
-use crate::history::{Announcement, History, Place};
-use crate::layouts::Refused;
-use crate::lent::{refused, Lent};
+use crate::generate::Draft;
+use crate::history::{History, Place};
+use crate::lent::Lent;
 use crate::moves::Moves;
 use crate::rng::Rng;
+use crate::sequences::{any_next, begin, commit, logical, next, spread, stream_start, Pool, MANY_OIDS, MANY_STREAMS, MIXED};
 use crate::tally::Tally;
-use kitsoriqu::{Answer, Refusal, Session};
+use kitsoriqu::Session;
 use std::collections::BTreeSet;
 
-/// What a sequence draws from: so many OIDs and xids; and how likely it is to end a transaction or block, to announce a relation and
-/// to close a stream.
-struct Pool {
-    oids: u64,
-    xids: u64,
-    ends: u64,
-    announces: u64,
-    closes: u64,
-}
-
-const MIXED: Pool = Pool { oids: 5, xids: 6, ends: 2, announces: 5, closes: 3 };
-
-/// More xids than there is room for, and few streams closed.
-const MANY_STREAMS: Pool = Pool { xids: 40, ends: 10, closes: 0, ..MIXED };
-
-/// More OIDs than there is room for, and mostly announcements.
-const MANY_OIDS: Pool = Pool { oids: 300, xids: 12, announces: 45, closes: 6, ..MIXED };
-
-/// The n-th OID or xid: by turns from the least up, from the middle up and from the greatest down.
-fn spread(n: u64) -> u32 {
-    let step = n as u32 / 3;
-    match n % 3 {
-        0 => 1 + step,
-        1 => 0x7FFF_FFFF + step,
-        _ => u32::MAX - step,
-    }
-}
-
-impl Pool {
-    fn oid(&self, rng: &mut Rng) -> u32 {
-        spread(rng.below(self.oids))
-    }
-
-    fn xid(&self, rng: &mut Rng) -> u32 {
-        spread(rng.below(self.xids))
-    }
-}
-
-fn begin(rng: &mut Rng, xid: u32) -> Draft {
-    Draft::new(b'B').long(rng.below(3)).long(0).word(xid)
-}
-
-fn commit(lsn: u64) -> Draft {
-    Draft::new(b'C').byte(0).long(lsn).long(9).long(0)
-}
-
-fn stream_start(xid: u32, first: bool) -> Draft {
-    Draft::new(b'S').word(xid).byte(first.into())
-}
-
-fn stream_commit(xid: u32) -> Draft {
-    Draft::new(b'c').word(xid).byte(0).long(1).long(2).long(3)
-}
-
-fn stream_abort(xid: u32, sub_xid: u32) -> Draft {
-    Draft::new(b'A').word(xid).word(sub_xid)
-}
-
-fn logical(rng: &mut Rng, xid: Option<u32>, transactional: bool) -> Draft {
-    Draft::new(b'M').xid(xid).byte(transactional.into()).long(7).text(rng, 4).value(rng, 4)
-}
-
-fn relation(rng: &mut Rng, xid: Option<u32>, oid: u32) -> Draft {
-    let count = rng.below(3) as u16;
-    Draft::new(b'R').xid(xid).word(oid).text(rng, 2).text(rng, 2).byte(rng.pick(b"dnfi")).columns(rng, count)
-}
-
-/// An Insert, Update or Delete that fits what is announced, or nearly.
-fn change(rng: &mut Rng, xid: Option<u32>, oid: u32, seen: Option<Announcement>) -> Draft {
-    let mut count = seen.map_or(1, |seen| seen.columns as u16);
-    let is_full = seen.is_some_and(|seen| seen.identity == u64::from(b'f'));
-    let mut image = if is_full { b'O' } else { b'K' };
-    if rng.one_in(20) {
-        count += 1;
-    }
-    if rng.one_in(20) {
-        image = rng.pick(b"KO");
-    }
-    let letter = rng.pick(b"IUUD");
-    let mut draft = Draft::new(letter).xid(xid).word(oid);
-    if letter == b'D' || letter == b'U' && rng.one_in(2) {
-        draft = draft.byte(image).tuple(rng, count);
-    }
-    if letter != b'D' {
-        draft = draft.byte(b'N').tuple(rng, count);
-    }
-    draft
-}
-
-fn idle(rng: &mut Rng, history: &History, pool: &Pool) -> Draft {
-    let open: Vec<u64> = history.open().into_iter().collect();
-    let xid = pool.xid(rng);
-    let known = if open.is_empty() || rng.one_in(10) { xid } else { rng.pick(&open) as u32 };
-    if rng.one_in(12) {
-        let transactional = rng.one_in(4);
-        return logical(rng, None, transactional);
-    }
-    match rng.below(9 + pool.closes) {
-        0..=3 => begin(rng, xid),
-        4 | 5 => stream_start(xid, !history.is_open(xid.into())),
-        6..=8 => stream_start(known, !history.is_open(known.into())),
-        n if n % 3 == 0 => stream_commit(known),
-        n if n % 3 == 1 => stream_abort(known, known),
-        _ => stream_abort(known, xid),
-    }
-}
-
-fn inside(rng: &mut Rng, history: &History, pool: &Pool) -> Draft {
-    // inside a block the xid may be a sub-transaction's
-    let xid = history.in_block().then(|| pool.xid(rng));
-    let oid = pool.oid(rng);
-    let n = rng.below(pool.ends + 13 + pool.announces);
-    if n < pool.ends {
-        return match history.place() {
-            Place::Transaction(lsn) => commit(lsn),
-            _ => Draft::new(b'E'),
-        };
-    }
-    match n - pool.ends {
-        0 => Draft::new(b'O').long(7).text(rng, 4),
-        1 => {
-            let transactional = rng.one_in(2);
-            logical(rng, xid, transactional)
-        }
-        2 => Draft::new(b'Y').xid(xid).word(8).text(rng, 4).text(rng, 4),
-        3 | 4 => {
-            let oids: Vec<u32> = (0..=rng.below(3)).map(|_| pool.oid(rng)).collect();
-            Draft::new(b'T').xid(xid).oids(&oids, 0)
-        }
-        5..=12 => change(rng, xid, oid, history.visible(oid.into())),
-        _ => relation(rng, xid, oid),
-    }
-}
-
-/// The next message: mostly one that fits, now and then one that does not, or that is damaged.
-fn next(rng: &mut Rng, history: &History, pool: &Pool) -> Vec<u8> {
-    if rng.one_in(12) {
-        let xid = pool.xid(rng);
-        let in_block = history.in_block();
-        let out_of_place = match rng.below(8) {
-            0 => begin(rng, xid),
-            1 => commit(rng.below(3)),
-            2 => stream_start(xid, rng.one_in(2)),
-            3 => Draft::new(b'E'),
-            4 => stream_commit(xid),
-            5 => stream_abort(xid, xid),
-            6 => Draft(message(rng, in_block)),
-            _ => inside(rng, history, pool),
-        };
-        return out_of_place.0;
-    }
-    let mut bytes = if history.place() == Place::Idle { idle(rng, history, pool) } else { inside(rng, history, pool) }.0;
-    if rng.one_in(30) {
-        damage(rng, &mut bytes);
-    }
-    bytes
-}
-
-/// What the library fills in for an answer of the history's.
-fn numbers_of(expected: Result<Option<Announcement>, Refused>) -> (u32, [u64; 4]) {
-    match expected {
-        Ok(None) => (0, [0; 4]),
-        Ok(Some(seen)) => (0, [1, seen.tag, seen.identity, seen.columns]),
-        Err((number, offset)) => (number, refused(offset)),
-    }
-}
-
-fn typed_numbers(answer: Result<Answer, Refusal>) -> (u32, [u64; 4]) {
-    match answer {
-        Ok(Answer::Accepted) => (0, [0; 4]),
-        Ok(Answer::Change { tag, identity, columns }) => (0, [1, tag, identity.letter().into(), columns.into()]),
-        Err(refusal) => (refusal.number, refused(refusal.offset)),
-    }
-}
-
 /// Gives a record one message; a refusal must leave it as it was.
-fn give(record: &mut Lent<Record>, bytes: &[u8], tag: u64) -> (u32, [u64; 4]) {
+pub fn give(record: &mut Lent<Record>, bytes: &[u8], tag: u64) -> (u32, [u64; 4]) {
     let before = record.value.clone();
     let mut answer = Lent::numbers();
     let number = ffi::session_give(&mut record.value, bytes, tag, &mut answer.value);
@@ -388,17 +214,13 @@ fn make_up(rng: &mut Rng, record: &mut Record) {
     }
 }
 
-/// A message that can be read at the history's place, or one that is damaged.
-fn any_next(rng: &mut Rng, history: &History, pool: &Pool) -> Vec<u8> {
-    let mut bytes = match rng.below(4) {
-        0 => message(rng, history.in_block()),
-        1 => idle(rng, history, pool).0,
-        _ => inside(rng, history, pool).0,
-    };
-    if rng.one_in(10) {
-        damage(rng, &mut bytes);
-    }
-    bytes
+/// The i-th made-up session, of one that was driven: its record, the history of what it had accepted, and where that drew from.
+pub fn made_up_session(rng: &mut Rng, i: u64) -> (Lent<Record>, History, &'static Pool) {
+    let pool = if i % 4 == 0 { &MANY_STREAMS } else { &MIXED };
+    let length = rng.pick(&[0, 20, 60, 300]);
+    let Sessions { mut record, history, .. } = compare(rng, Some(2), length, pool, &mut Tally::new(), &mut Moves::default());
+    make_up(rng, &mut record.value);
+    (record, history, pool)
 }
 
 /// A record of any bytes is answered, as is its copy, and a refusal leaves all of them as they were.
@@ -407,10 +229,7 @@ fn made_up_records() {
     let mut rng = Rng::new(34);
     let mut tally = Tally::new();
     for i in 0..2_000 {
-        let pool = if i % 4 == 0 { &MANY_STREAMS } else { &MIXED };
-        let length = rng.pick(&[0, 20, 60, 300]);
-        let Sessions { mut record, history, .. } = compare(&mut rng, Some(2), length, pool, &mut Tally::new(), &mut Moves::default());
-        make_up(&mut rng, &mut record.value);
+        let (mut record, history, pool) = made_up_session(&mut rng, i);
         for _ in 0..20 {
             let mut copied = Lent::of(record.value.clone());
             let bytes = any_next(&mut rng, &history, pool);

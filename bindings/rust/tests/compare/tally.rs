@@ -1,4 +1,5 @@
-//! How often each answer was given, so that a test can say that it saw them all.
+//! How often each answer was given and other things happened, so that a test can say that it saw them all.
+use std::collections::BTreeMap;
 
 pub struct Tally([u64; 256]);
 
@@ -21,5 +22,24 @@ impl Tally {
             let is_expected = numbers.contains(&number);
             assert!(if is_expected { seen >= least } else { seen == 0 }, "answer {number} was seen {seen} times");
         }
+    }
+}
+
+/// How often things happened that have names.
+pub struct Counts(BTreeMap<&'static str, u64>);
+
+impl Counts {
+    pub fn of<const N: usize>(names: [&'static str; N]) -> Counts {
+        Counts(names.map(|name| (name, 0)).into())
+    }
+
+    pub fn note(&mut self, name: &'static str, is_so: bool) {
+        *self.0.get_mut(name).expect(name) += u64::from(is_so);
+    }
+
+    /// Each at least so often.
+    pub fn have_all_been(&self, least: u64) {
+        println!("{:?}", self.0);
+        assert!(self.0.values().all(|&times| times >= least), "{:?}", self.0);
     }
 }
