@@ -27,6 +27,9 @@ fn constants() -> Vec<(&'static str, u64)> {
         ("KQ_ANNOUNCEMENTS", Refusal::ANNOUNCEMENTS.into()),
         ("KQ_STREAMS", Refusal::STREAMS.into()),
         ("KQ_OUTPUT", Refusal::OUTPUT.into()),
+        // the keeper has no declarations here yet
+        ("KQ_KEEPER", 14),
+        ("KQ_REPLY", 5),
         ("KQ_OVER", ffi::OVER.into()),
         ("KQ_BEGIN", kind::BEGIN),
         ("KQ_COMMIT", kind::COMMIT),
