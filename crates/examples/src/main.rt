@@ -2,7 +2,7 @@
 // on how many both gave the same answer and the one that stands there. Cases that are marked for it are then varied: at
 // every version and place, cut short, made longer, and with one byte changed. What a message has is stepped through to its
 // end, and from every offset. A message that was read is written back from its bytes, and made-up ones are written or refused.
-// Messages are given to sessions.
+// Messages are given to sessions, and to sessions with a keeper.
 ghost use Prim.Native.Nat.{_≤_};
 ghost use lib.ListN.{length};
 use libc::STDIN_FILENO;
@@ -14,6 +14,7 @@ use second_reader::Seen;
 use text::Decimal;
 
 mod flat;
+mod keepers;
 mod sessions;
 mod steps;
 mod text;
@@ -341,10 +342,11 @@ fn run_made(tally: Tally, line: &[u8], message: &mut [u8]) -> Tally {
     tally.with(is_good)
 }
 
-// Whether a line with this first byte is a group's name, a note or empty.
+// Whether a line with this first byte is a group's name, a note or empty, or concerns a session.
 fn is_no_case(first: u8) -> bool {
     match first {
         b'#' | b'/' | b'>' | b'+' | b'\n' => true,
+        b'K' | b'k' | b'H' | b'h' | b'o' => true,
         _ => false,
     }
 }
@@ -406,15 +408,19 @@ fn run_lines(pass: u8, lines: &[u8], message: &mut [u8]) -> Tally {
     tally
 }
 
+fn run_group(group: &[u8], message: &mut [u8]) {
+    let read = run_lines(AS_WRITTEN, group, message);
+    let given = sessions::run_lines(read, group, message);
+    let kept = keepers::run_lines(given, group, message);
+    print(text::name(group));
+    print_tally(kept);
+}
+
 fn run_groups(cases: &[u8], message: &mut [u8]) {
     let mut at = text::next_group(cases, 0);
     while at < cases.len() {
         let next = text::next_group(cases, text::next_line(cases, at));
-        let group = &cases[at..next];
-        let read = run_lines(AS_WRITTEN, group, message);
-        let tally = sessions::run_lines(read, group, message);
-        print(text::name(group));
-        print_tally(tally);
+        run_group(&cases[at..next], message);
         at = next;
     }
 }

@@ -51,6 +51,19 @@ fn seen(answer: Answer) -> Seen {
     }
 }
 
+// Whether an answer is the one that stands in a line.
+pub fn is_said(said: Answer, line: &[u8], answer: usize) -> bool {
+    let saw = seen(said);
+    let is_agreed = crate::is_answer(text::back(line, answer), saw);
+    if !is_agreed {
+        crate::print(b"  session ");
+        crate::print_answer(saw);
+        crate::print(b" to ");
+        crate::print(line);
+    }
+    is_agreed
+}
+
 fn give(run: Running, bytes: &[u8], line: &[u8], answer: usize) -> Running {
     let Running {
         session,
@@ -61,18 +74,10 @@ fn give(run: Running, bytes: &[u8], line: &[u8], answer: usize) -> Running {
         session: after,
         answer: said,
     } = session::step(session, bytes, given);
-    let saw = seen(said);
-    let is_agreed = crate::is_answer(text::back(line, answer), saw);
-    if !is_agreed {
-        crate::print(b"  session ");
-        crate::print_answer(saw);
-        crate::print(b" to ");
-        crate::print(line);
-    }
     Running {
         session: after,
         given: std::num::wrapping_add_u64(given, 1),
-        tally: tally.with(is_agreed),
+        tally: tally.with(is_said(said, line, answer)),
     }
 }
 
@@ -103,7 +108,7 @@ fn repeats(line: &[u8]) -> Repetition {
 
 fn give_line(run: Running, line: &[u8], message: &mut [u8]) -> Running {
     let times = repeats(line);
-    let hex = text::hex_bytes(line, times.next, message);
+    let hex = text::hex_bytes(line, times.next, b'=', message);
     let answer = std::num::wrapping_add_usize(hex.next, 1);
     if !hex.good {
         crate::print(b"  not a message: ");
@@ -120,7 +125,7 @@ fn give_line(run: Running, line: &[u8], message: &mut [u8]) -> Running {
     sum
 }
 
-fn fresh(line: &[u8]) -> Session {
+pub fn fresh(line: &[u8]) -> Session {
     let version = text::read_decimal(line, 1);
     if version.good {
         session::start((version.value % 4_294_967_296) as u32)

@@ -256,14 +256,14 @@ fn hex_piece(text: &[u8], at: usize, message: &mut [u8], size: usize) -> Hex
     }
 }
 
-// The bytes of a case, up to its `=`. They leave room in the message for one more.
-pub fn hex_bytes(text: &[u8], from: usize, message: &mut [u8]) -> Hex
+// The bytes up to the one that ends them, as a case's `=`. They leave room in the message for one more.
+pub fn hex_bytes(text: &[u8], from: usize, end: u8, message: &mut [u8]) -> Hex
     ensures { λ r. ⌜ (r .next ≤ length (now (text .entry))) × (r .size ≤ length (now (message .entry))) ⌝ }
 {
     let mut at = from;
     let mut size: usize = 0;
     while at < text.len() {
-        if text[at] == b'=' {
+        if text[at] == end {
             return Hex {
                 good: size < message.len(),
                 size,
@@ -311,7 +311,7 @@ pub fn parse_case(line: &[u8], from: usize, message: &mut [u8]) -> Case
     if line.len() <= place {
         return no_case();
     }
-    let hex = hex_bytes(line, place + 1, message);
+    let hex = hex_bytes(line, place + 1, b'=', message);
     if !hex.good {
         return no_case();
     }

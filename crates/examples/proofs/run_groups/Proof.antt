@@ -23,33 +23,21 @@ next-line-requires c κs = tt
 next-group-requires-2 : tie.Need-next-group-requires-2 Inv-loop μ-loop
 next-group-requires-2 c κs = tt
 
-sub-group : tie.Need-sub-group Inv-loop μ-loop
-sub-group c = omega (arith, c .before .next-line .ensures .beyond (omega arith), c .next-group2 .ensures .onward (omega arith))
+sub-run-group : tie.Need-sub-run-group Inv-loop μ-loop
+sub-run-group c = omega (arith, c .before .next-line .ensures .beyond (omega arith), c .next-group2 .ensures .onward (omega arith))
 
-part-group-start : tie.Need-part-group-start Inv-loop μ-loop
-part-group-start c = omega (arith, c .before .next-line .ensures .beyond (omega arith), c .next-group2 .ensures .onward (omega arith))
+part-run-group-start : tie.Need-part-run-group-start Inv-loop μ-loop
+part-run-group-start c = omega (arith, c .before .next-line .ensures .beyond (omega arith), c .next-group2 .ensures .onward (omega arith))
 
-part-group-end : tie.Need-part-group-end Inv-loop μ-loop
-part-group-end c = omega arith
+part-run-group-end : tie.Need-part-run-group-end Inv-loop μ-loop
+part-run-group-end c = omega arith
 
-run-lines-requires : tie.Need-run-lines-requires Inv-loop μ-loop
-run-lines-requires c κs = tt
-
-run-lines-requires-2 : tie.Need-run-lines-requires-2 Inv-loop μ-loop
-run-lines-requires-2 c κs = tt
-
-name-requires : tie.Need-name-requires Inv-loop μ-loop
-name-requires c κs = tt
-
-print-requires : tie.Need-print-requires Inv-loop μ-loop
-print-requires c κs = tt
-
-print-tally-requires : tie.Need-print-tally-requires Inv-loop μ-loop
-print-tally-requires c κs = tt
+run-group-requires : tie.Need-run-group-requires Inv-loop μ-loop
+run-group-requires c κs = tt
 
 loop-less : tie.Need-loop-less Inv-loop μ-loop
 loop-less c =
-    let l = c .before .before .before .before .before .before .before .before .before .before .before .before in
+    let l = c .before .before .before .before .before in
     omega (arith, l .before .next-line .ensures .beyond (omega arith), l .next-group2 .ensures .onward (omega arith))
 
 loop-again : tie.Need-loop-again Inv-loop μ-loop
@@ -71,14 +59,10 @@ run-groups-spec =
     loop-holds
     next-line-requires
     next-group-requires-2
-    sub-group
-    part-group-start
-    part-group-end
-    run-lines-requires
-    run-lines-requires-2
-    name-requires
-    print-requires
-    print-tally-requires
+    sub-run-group
+    part-run-group-start
+    part-run-group-end
+    run-group-requires
     loop-less
     loop-again
     same-length

@@ -7,10 +7,10 @@ use Rattle.examples.proofs.text.hex_bytes.Statement.{statement}
 use Rattle.examples.proofs.text.hex_bytes.Tie as tie
 
 abbrev Inv-loop : tie.InvT-loop
-Inv-loop text from message₀ at₀ size₀ message at size = (size ≤ length message) × (length message ≡ length message₀)
+Inv-loop text from end message₀ at₀ size₀ message at size = (size ≤ length message) × (length message ≡ length message₀)
 
 abbrev μ-loop : tie.MeasureT-loop
-μ-loop text from message₀ at₀ size₀ message at size = length text - at
+μ-loop text from end message₀ at₀ size₀ message at size = length text - at
 
 loop-holds : tie.Need-loop-holds Inv-loop μ-loop
 loop-holds c = omega arith
