@@ -127,19 +127,19 @@ void kq_session_start_default(kq_session *session);
 #define KQ_ANSWER 4
 uint32_t kq_session_give(kq_session *session, const uint8_t *bytes, size_t len, uint64_t tag, uint64_t answer[KQ_ANSWER]);
 
-/* A KEEPER holds what a streamed transaction changes until it commits: each accepted Insert, Update, Delete or Truncate in a stream block,
- * as a record of 14 + n bytes: the mark C3 4D, then the block's xid, the xid that the message carries and its length n, each 32 bits
- * big-endian, then the message. The records stand packed, in the order of their arrival, at the front of the caller's buffer. *held is
- * how many bytes they have: 0 at the start; buffer and *held are handed back as the last call left them, and buffer may then be longer.
+/* A KEEPER holds what a streamed transaction changes until it commits: each accepted Insert, Update, Delete or Truncate in a stream
+ * block, as a record of 14 + n bytes: the mark C3 4D, then the block's xid, the xid that the message carries and its length n, each 32
+ * bits big-endian, then the message. The records stand packed, in the order of their arrival, at the front of the caller's buffer, and
+ * *held is how many bytes they have: 0 at the start. Hand both back as the last call left them; the buffer may be longer then.
  *
- * Gives a session with a keeper one message, with a tag. All is as in kq_session_give, and the reply is its answer and one number behind.
- * An accepted Stream Commit moves its transaction's records, in their order, to the start of out: reply[4] is how many bytes they have, and
- * out's bytes behind them are as they were. After any other message reply[4] is 0 and out is as it was. An accepted Stream Abort drops its
- * transaction's records, or, of a subtransaction, those whose message carries its xid. What is left is packed; the buffer's bytes behind
- * the records are as they were.
- * After the session's own refusals: KQ_KEEPER at 0 where a change's record would go past the buffer's end, and KQ_OUTPUT at 0 where out is
- * shorter than what a Stream Commit releases. After any refusal session, buffer, *held and out are as they were: the caller may go on,
- * or give the message again with a longer buffer or out.
+ * Gives a session with a keeper one message, with a tag, as kq_session_give does; reply is its answer and one number more.
+ * An accepted Stream Commit moves its transaction's records, in their order, to the start of out: reply[4] is how many bytes they have,
+ * and out's bytes behind them are as they were. After any other message reply[4] is 0 and out is as it was. An accepted Stream Abort
+ * drops its transaction's records, or, of a subtransaction, those whose message carries its xid. What is left is packed; the buffer's
+ * bytes behind the records are as they were.
+ * After the session's own refusals: KQ_KEEPER at 0 where a change's record would go past the buffer's end, and KQ_OUTPUT at 0 where out
+ * is shorter than what a Stream Commit releases. After any refusal session, buffer, *held and out are as they were: the caller may go
+ * on, or give the message again with a longer buffer or out.
  * Any buffer and any *held are answered: held bytes that are no whole record are nobody's, and stay. */
 #define KQ_REPLY 5
 uint32_t kq_keeper_give(kq_session *session, const uint8_t *bytes, size_t len, uint64_t tag, uint8_t *buffer, size_t buffer_len,

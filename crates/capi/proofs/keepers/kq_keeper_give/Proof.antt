@@ -61,16 +61,7 @@ use Rattle.capi.proofs.keepers.kq_keeper_give.Statement as stated
 use Rattle.capi.proofs.keepers.kq_keeper_give.Code as code
 
 abbrev stayed : Stays (f.ended .signature .params) (f.ended .kept)
-stayed = (
-  gave-ref (0 ∷ []) tt (plain (λ _. T.the-row)),
-  (
-    stay-none-slice (1 ∷ []) tt (plain (λ _. u8)) yes,
-    (
-      stay-none (λ _. u64) yes,
-      (gave-slice (2 ∷ []) tt (plain (λ _. u8)), (gave-ref (3 ∷ []) tt (plain (λ _. usize)), (gave-slice (4 ∷ []) tt (plain (λ _. u8)), (gave-ref (5 ∷ []) tt (plain (λ _. Array u64 5)), tt)))),
-    ),
-  ),
-)
+stayed = (gave-ref (0 ∷ []) tt (plain (λ _. T.the-row)), (stay-none-slice (1 ∷ []) tt (plain (λ _. u8)) yes, (stay-none (λ _. u64) yes, (gave-slice (2 ∷ []) tt (plain (λ _. u8)), (gave-ref (3 ∷ []) tt (plain (λ _. usize)), (gave-slice (4 ∷ []) tt (plain (λ _. u8)), (gave-ref (5 ∷ []) tt (plain (λ _. Array u64 5)), tt)))))))
 
 -- what the step says, from what the two callees say
 told : (z : Session) (r : Reply) (buffer : List ℕ) (held : ℕ) (out : List ℕ) (k : ℕ) (ys : List ℕ) (t : After) → after z r out (hold buffer held) ≡ t → filled k ys ≡ replyNumbers (r .answer) (r .released)
@@ -230,16 +221,8 @@ module _ {M : Type 1} (𝓤 : URA M) (H : Heap 𝓤) (A : Atoms 𝓤) (W : Given
 f-meets : {M : Type 1} (𝓤 : URA M) (H : Heap 𝓤) (A : Atoms 𝓤) → Given 𝓤 H A → (at-mem : Memory → SProp 𝓤) (run : Routine → Fun 𝓤) (𝓣 : Tables 𝓤 H) → Triple 𝓤 (𝓣 .C #keeper·give-lent) (GC 𝓤 H A at-mem run) → Triple 𝓤 (𝓣 .C #capi·put-reply) (PC 𝓤 H A at-mem run)
     → Meets 𝓤 H A f.signature (WpFn 𝓤 H (𝓣 .C) (𝓣 .Λ) code.function) (f.spec 𝓤 H A at-mem run)
 f-meets 𝓤 H A W at-mem run 𝓣 known known-put =
-    walk-meets 𝓤 H A f.ended stayed W (
-      goes-gave-ref 𝓤 H A W 6 0 tt (plain (λ _. T.the-row)),
-      (
-        goes-none-slice 𝓤 H A W 6 (1 ∷ []) tt (plain (λ _. u8)) yes,
-        (
-          goes-none 𝓤 H A W 6 (λ _. u64) yes (λ κs x f. refl),
-          (goes-gave-slice 𝓤 H A W 6 2 tt (plain (λ _. u8)), (goes-gave-ref 𝓤 H A W 6 3 tt (plain (λ _. usize)), (goes-gave-slice 𝓤 H A W 6 4 tt (plain (λ _. u8)), (goes-gave-ref 𝓤 H A W 6 5 tt (plain (λ _. Array u64 5)), tt)))),
-        ),
-      ),
-    )
+    walk-meets 𝓤 H A f.ended stayed W
+    (goes-gave-ref 𝓤 H A W 6 0 tt (plain (λ _. T.the-row)), (goes-none-slice 𝓤 H A W 6 (1 ∷ []) tt (plain (λ _. u8)) yes, (goes-none 𝓤 H A W 6 (λ _. u64) yes (λ κs x f. refl), (goes-gave-slice 𝓤 H A W 6 2 tt (plain (λ _. u8)), (goes-gave-ref 𝓤 H A W 6 3 tt (plain (λ _. usize)), (goes-gave-slice 𝓤 H A W 6 4 tt (plain (λ _. u8)), (goes-gave-ref 𝓤 H A W 6 5 tt (plain (λ _. Array u64 5)), tt)))))))
     (f.clauses 𝓤 H A at-mem run) (WpFn 𝓤 H (𝓣 .C) (𝓣 .Λ) code.function) (WpFn-mono 𝓤 H (W .laws) 𝓣 code.function) (f-walks 𝓤 H A W at-mem run (𝓣 .C) (𝓣 .Λ) (fmOf 𝓤 H (W .laws) 𝓣) known known-put)
 
 pub kq-keeper-give-spec : {M : Type 1} → stated.statement M
