@@ -1,9 +1,9 @@
 /* Kitsoriqu: PostgreSQL's logical replication messages (pgoutput, protocol versions 1 and 2), read, written and judged in sequence.
  *
- * Every function answers every input. It returns 0, or the number of a refusal (KQ_VERSION to KQ_OUTPUT) with the offset at which it
+ * Every function answers every input. It returns 0, or the number of a refusal (KQ_VERSION to KQ_KEEPER) with the offset at which it
  * arose as the first number of what it fills in. It reads the bytes it is lent and writes what its comment names, nothing else.
  * A pointer must be good for the length that comes with it (or for the numbers its type names), and what is written must not overlap
- * what is read; a length of 0 may come with any pointer that is not NULL. That is all a caller can do wrong.
+ * anything else that is lent; a length of 0 may come with any pointer that is not NULL. That is all a caller can do wrong.
  *
  * `version` is any number; one that is not 1 or 2 is refused with KQ_VERSION. `in_block` is 0 outside a stream block and anything else
  * inside one. */
@@ -31,7 +31,8 @@ enum {
     KQ_SHAPE = 10,        /* the shape differs from the announcement */
     KQ_ANNOUNCEMENTS = 11, /* no room for an announcement */
     KQ_STREAMS = 12,      /* no room for a streamed transaction */
-    KQ_OUTPUT = 13        /* the output is shorter than the message to be written */
+    KQ_OUTPUT = 13,       /* the output is shorter than the message to be written, or than the records to be released */
+    KQ_KEEPER = 14        /* no room in the keeper's buffer for a change */
 };
 
 /* What kq_column_step returns when there is nothing left: no refusal. */
@@ -125,6 +126,24 @@ void kq_session_start_default(kq_session *session);
  * A Message with flags 0 may stand anywhere, one with flags 1 (transactional) in a transaction or stream block, else KQ_PLACE. */
 #define KQ_ANSWER 4
 uint32_t kq_session_give(kq_session *session, const uint8_t *bytes, size_t len, uint64_t tag, uint64_t answer[KQ_ANSWER]);
+
+/* A KEEPER holds what a streamed transaction changes until it commits: each accepted Insert, Update, Delete or Truncate in a stream
+ * block, as a record of 14 + n bytes: the mark C3 4D, then the block's xid, the xid that the message carries and its length n, each 32
+ * bits big-endian, then the message. The records stand packed, in the order of their arrival, at the front of the caller's buffer, and
+ * *held is how many bytes they have: 0 at the start. Hand both back as the last call left them; the buffer may be longer then.
+ *
+ * Gives a session with a keeper one message, with a tag, as kq_session_give does; reply is its answer and one number more.
+ * An accepted Stream Commit moves its transaction's records, in their order, to the start of out: reply[4] is how many bytes they have,
+ * and out's bytes behind them are as they were. After any other message reply[4] is 0 and out is as it was. An accepted Stream Abort
+ * drops its transaction's records, or, of a subtransaction, those whose message carries its xid. What is left is packed; the buffer's
+ * bytes behind the records are as they were.
+ * After the session's own refusals: KQ_KEEPER at 0 where a change's record would go past the buffer's end, and KQ_OUTPUT at 0 where out
+ * is shorter than what a Stream Commit releases. After any refusal session, buffer, *held and out are as they were: the caller may go
+ * on, or give the message again with a longer buffer or out.
+ * Any buffer and any *held are answered: held bytes that are no whole record are nobody's, and stay. */
+#define KQ_REPLY 5
+uint32_t kq_keeper_give(kq_session *session, const uint8_t *bytes, size_t len, uint64_t tag, uint8_t *buffer, size_t buffer_len,
+                        size_t *held, uint8_t *out, size_t out_len, uint64_t reply[KQ_REPLY]);
 
 #ifdef __cplusplus
 }

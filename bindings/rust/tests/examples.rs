@@ -17,9 +17,27 @@ message 3: accepted
 message 4: refusal 7 at 0
 ";
 
+const KEPT: &str = "\
+message 0: accepted, 0 bytes held, 0 released
+message 1: accepted, 0 bytes held, 0 released
+message 2: accepted, 33 bytes held, 0 released
+message 3: accepted, 66 bytes held, 0 released
+message 4: accepted, 99 bytes held, 0 released
+message 5: accepted, 99 bytes held, 0 released
+message 6: accepted, 66 bytes held, 0 released
+message 7: accepted, 0 bytes held, 66 released
+  xid 7: 42
+  xid 7: 44
+";
+
 #[test]
 fn c_example() {
     assert_eq!(cc::run(&Path::new(HERE).join("../c/example.c"), "example"), PRINTED);
+}
+
+#[test]
+fn c_keeper() {
+    assert_eq!(cc::run(&Path::new(HERE).join("../c/keeper.c"), "keeper"), KEPT);
 }
 
 #[test]

@@ -1,4 +1,5 @@
 mod flat;
+pub mod keepers;
 pub mod reading;
 mod rows;
 pub mod sessions;

@@ -1,0 +1,53 @@
+// A session in the caller's record, with a keeper in the caller's buffer.
+ghost use mathlib.Core.Path.{_≡_};
+ghost use Rattle.keeper.specs.Records.{hold};
+ghost use Rattle.keeper.specs.Machine.{stepOf};
+ghost use Rattle.capi.specs.Filled.{filled};
+ghost use Rattle.capi.specs.Sessions.{replyNumbers};
+use keeper::Reply;
+use session::Answer;
+use session::Session;
+
+fn put_reply(said: Reply, reply: &mut [u64; 5]) -> u32
+    ensures { λ r. ⌜ filled r (now (reply .exit)) ≡ replyNumbers (said .answer) (said .released) ⌝ }
+{
+    let Reply { answer, released } = said;
+    match answer {
+        Answer::Accepted => {
+            *reply = [0, 0, 0, 0, released as u64];
+            0
+        }
+        Answer::Change {
+            tag,
+            identity,
+            columns,
+        } => {
+            *reply = [1, tag, identity as u64, columns as u64, released as u64];
+            0
+        }
+        Answer::Refused { number, offset } => {
+            *reply = [offset as u64, 0, 0, 0, released as u64];
+            number as u32
+        }
+    }
+}
+
+// Gives a session with a keeper one message, with a tag: the keeper's buffer, how many of its bytes are held, and an output for what is
+// released.
+#[no_mangle]
+pub extern "C" fn kq_keeper_give(
+    session: &mut Session,
+    bytes: &[u8],
+    tag: u64,
+    buffer: &mut [u8],
+    held: &mut usize,
+    out: &mut [u8],
+    reply: &mut [u64; 5],
+) -> u32
+    ensures { λ r. ⌜ (let t = stepOf (now (session .entry)) (hold (now (buffer .entry)) (now (held .entry))) (now (out .entry)) (now (bytes .entry)) tag in
+        (now (session .exit) ≡ t .session) × (now (buffer .exit) ≡ t .outcome .buffer) × (now (held .exit) ≡ t .outcome .held) × (now (out .exit) ≡ t .outcome .output)
+        × (filled r (now (reply .exit)) ≡ replyNumbers (t .outcome .answer) (t .outcome .released))) ⌝ }
+{
+    let said = keeper::give_lent(session, bytes, tag, buffer, held, out);
+    put_reply(said, reply)
+}
