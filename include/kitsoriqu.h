@@ -140,7 +140,8 @@ uint32_t kq_session_give(kq_session *session, const uint8_t *bytes, size_t len, 
  * After the session's own refusals: KQ_KEEPER at 0 where a change's record would go past the buffer's end, and KQ_OUTPUT at 0 where out
  * is shorter than what a Stream Commit releases. After any refusal session, buffer, *held and out are as they were: the caller may go
  * on, or give the message again with a longer buffer or out.
- * Any buffer and any *held are answered: held bytes that are no whole record are nobody's, and stay. */
+ * Any buffer and any *held are answered: held bytes that are no whole record are nobody's, and stay.
+ * This function is in an archive of its own, libcapi_keeper.a; all others are in libcapi.a. */
 #define KQ_REPLY 5
 uint32_t kq_keeper_give(kq_session *session, const uint8_t *bytes, size_t len, uint64_t tag, uint8_t *buffer, size_t buffer_len,
                         size_t *held, uint8_t *out, size_t out_len, uint64_t reply[KQ_REPLY]);

@@ -1,7 +1,21 @@
-//! Links `libcapi.a`, the proved library: from the folder that `KITSORIQU_LIB_DIR` names, else from where `rt staticlib capi` writes it.
+//! Links `libcapi.a` and `libcapi_keeper.a`, the proved library: from the folder that `KITSORIQU_LIB_DIR` names, else from where
+//! `rt staticlib` writes them.
 use std::env;
-use std::path::PathBuf;
+use std::path::{Path, PathBuf};
 use std::process::exit;
+
+/// Links an archive of the folder, and names it to the tests that compile C.
+fn link(dir: &Path, name: &str, variable: &str) {
+    let archive = dir.join(format!("lib{name}.a"));
+    println!("cargo:rerun-if-changed={}", archive.display());
+    if !archive.is_file() {
+        eprintln!("{} is missing.", archive.display());
+        eprintln!("Run `rt staticlib {name}` in the repository's root to build it, or name its folder in KITSORIQU_LIB_DIR.");
+        exit(1);
+    }
+    println!("cargo:rustc-link-lib=static={name}");
+    println!("cargo:rustc-env={variable}={}", archive.display());
+}
 
 fn main() {
     println!("cargo:rerun-if-env-changed=KITSORIQU_LIB_DIR");
@@ -9,15 +23,7 @@ fn main() {
         Some(dir) => PathBuf::from(dir),
         None => PathBuf::from(env::var_os("CARGO_MANIFEST_DIR").unwrap()).join("../../target/staticlib"),
     };
-    let archive = dir.join("libcapi.a");
-    println!("cargo:rerun-if-changed={}", archive.display());
-    if !archive.is_file() {
-        eprintln!("{} is missing.", archive.display());
-        eprintln!("Run `rt staticlib capi` in the repository's root to build it, or name its folder in KITSORIQU_LIB_DIR.");
-        exit(1);
-    }
     println!("cargo:rustc-link-search=native={}", dir.display());
-    println!("cargo:rustc-link-lib=static=capi");
-    // for the tests that compile C
-    println!("cargo:rustc-env=KITSORIQU_ARCHIVE={}", archive.display());
+    link(&dir, "capi", "KITSORIQU_ARCHIVE");
+    link(&dir, "capi_keeper", "KITSORIQU_KEEPER_ARCHIVE");
 }

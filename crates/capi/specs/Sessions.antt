@@ -1,6 +1,5 @@
 -- A session's answer in numbers.
-use Prim.Native.Nat.{ℕ}
-use mathlib.Core.List.{[], _∷_, _++_}
+use mathlib.Core.List.{[], _∷_}
 use Rattle.session.specs.declared.Answer.{Answer}
 use Rattle.session.specs.declared.Answer.the-variants.{Accepted, Change, Refused}
 use Rattle.capi.specs.Filled.{Filled, filled, padded}
@@ -10,7 +9,3 @@ abbrev pub answerNumbers : Answer → Filled
 answerNumbers Accepted = filled 0 (padded 4 [])
 answerNumbers (Change tag identity columns) = filled 0 (1 ∷ tag ∷ identity ∷ columns ∷ [])
 answerNumbers (Refused number offset) = filled number (padded 4 (offset ∷ []))
-
--- with a keeper: these, and behind them how many bytes are released
-abbrev pub replyNumbers : Answer → ℕ → Filled
-replyNumbers a released = filled (answerNumbers a .returned) (answerNumbers a .numbers ++ (released ∷ []))

@@ -1,5 +1,4 @@
 mod flat;
-pub mod keepers;
 pub mod reading;
 mod rows;
 pub mod sessions;

@@ -1,21 +1,16 @@
-// Gives feeds recorded from a PostgreSQL server, named by its arguments, each to a fresh session of the version in its name, and
-// prints each refusal and how many messages were accepted. A feed is records of the mark C3 4D, a length of 32 bits and a message.
-ghost use Prim.Native.Nat.{_+_, _≤_, _<_};
+// Gives feeds recorded from a PostgreSQL server, named by its arguments, each to a fresh session of the version in its name, and to one
+// with a keeper besides. Prints each refusal, what each Stream Commit released, how many bytes are still held in the end, and how many
+// messages were accepted. A feed is records of the mark C3 4D, a length of 32 bits and a message.
+ghost use Prim.Native.Nat.{_≤_};
 ghost use mathlib.Core.Path.{_≡_};
 ghost use lib.ListN.{length, take};
+use giving::Counts;
 use libc::STDOUT_FILENO;
-use session::Answer;
-use session::Stepped;
+
+mod giving;
+mod records;
 
 const ROOM: usize = 524_288;
-
-// The mark and the length before a message.
-const HEAD: usize = 6;
-
-struct Counts {
-    given: u64,
-    accepted: u64,
-}
 
 fn print(text: &[u8]) {
     io::write_all(STDOUT_FILENO, text);
@@ -23,77 +18,6 @@ fn print(text: &[u8]) {
 
 fn print_number(n: u64) {
     io::print_decimal(STDOUT_FILENO, n);
-}
-
-fn wide(b: u8) -> usize {
-    b as usize
-}
-
-// Where the message of the record at `at` ends, or 0 where there is no whole record.
-fn record_end(trace: &[u8], at: usize) -> usize
-    requires { ⌜ at ≤ length (now trace) ⌝ }
-    ensures { λ r. ⌜ (0 < r → (at + 6 ≤ r) × (r ≤ length (now (trace .entry)))) ⌝ }
-{
-    if trace.len() - at < HEAD {
-        return 0;
-    }
-    if trace[at] != 0xC3 {
-        return 0;
-    }
-    if trace[at + 1] != 0x4D {
-        return 0;
-    }
-    let high = wide(trace[at + 2]) % 256 * 16_777_216 + wide(trace[at + 3]) % 256 * 65_536;
-    let size = high + wide(trace[at + 4]) % 256 * 256 + wide(trace[at + 5]) % 256;
-    let start = at + HEAD;
-    if size <= trace.len() - start {
-        start + size
-    } else {
-        0
-    }
-}
-
-// Prints a refusal; 1 where the message was accepted.
-fn note(index: u64, answer: Answer) -> u64
-    ensures { λ r. ⌜ r ≤ 1 ⌝ }
-{
-    match answer {
-        Answer::Accepted | Answer::Change { .. } => 1,
-        Answer::Refused { number, offset } => {
-            print_number(index);
-            print(b": ");
-            print_number(number as u64);
-            print(b" at ");
-            print_number(offset as u64);
-            print(b"\n");
-            0
-        }
-    }
-}
-
-// Gives every message of a feed to a fresh session, tagged with its index.
-fn give_all(version: u32, trace: &[u8]) -> Counts {
-    let mut session = session::start(version);
-    let mut given: u64 = 0;
-    let mut accepted: u64 = 0;
-    let mut at: usize = 0;
-    while at < trace.len() {
-        let end = record_end(trace, at);
-        if end == 0 {
-            print(b"not a record\n");
-            return Counts { given, accepted };
-        }
-        let start = at + HEAD;
-        let Stepped {
-            session: after,
-            answer,
-        } = session::step(session, &trace[start..end], given);
-        session = after;
-        accepted += note(given, answer);
-        given += 1;
-        at = end;
-    }
-    Counts { given, accepted }
 }
 
 fn digit(b: u8) -> u32 {
@@ -145,7 +69,19 @@ fn front(bytes: &[u8], end: usize) -> &[u8]
     }
 }
 
-fn run_feed(name: &[u8], room: &mut [u8]) {
+fn print_counts(counts: Counts) {
+    if counts.held != 0 {
+        print_number(counts.held as u64);
+        print(b" bytes are still held\n");
+    }
+    print_number(counts.given);
+    print(b" messages, ");
+    print_number(counts.accepted);
+    print(b" accepted\n");
+}
+
+// A feed is read into the room; the buffer is the keeper's, and the output is for what it releases.
+fn run_feed(name: &[u8], room: &mut [u8], buffer: &mut [u8], out: &mut [u8]) {
     print(name);
     print(b"\n");
     let file = os::open_read(name);
@@ -155,31 +91,29 @@ fn run_feed(name: &[u8], room: &mut [u8]) {
     }
     let n = read_all(file, room);
     libc::close(file);
-    let counts = give_all(version_of(name), front(room, n));
-    print_number(counts.given);
-    print(b" messages, ");
-    print_number(counts.accepted);
-    print(b" accepted\n");
+    print_counts(giving::give_all(version_of(name), front(room, n), buffer, out));
 }
 
-fn run_argument(k: usize, room: &mut [u8]) {
+fn run_argument(k: usize, room: &mut [u8], buffer: &mut [u8], out: &mut [u8]) {
     let mut name = [0u8; 256];
     let n = os::arg(k, &mut name);
     if n <= 256 {
-        run_feed(&name[..n], room);
+        run_feed(&name[..n], room, buffer, out);
     }
 }
 
-fn run_arguments(count: usize, room: &mut [u8]) {
+fn run_arguments(count: usize, room: &mut [u8], buffer: &mut [u8], out: &mut [u8]) {
     let mut k: usize = 1;
     while k < count {
-        run_argument(k, room);
+        run_argument(k, room, buffer, out);
         k += 1;
     }
 }
 
 fn main() {
     let mut room = [0u8; ROOM];
+    let mut buffer = [0u8; ROOM];
+    let mut out = [0u8; ROOM];
     let count = os::arg_count();
-    run_arguments(count, &mut room);
+    run_arguments(count, &mut room, &mut buffer, &mut out);
 }

@@ -1,3 +1,4 @@
 pub mod Rules
 pub mod Records
 pub mod Machine
+pub mod Runs

@@ -1,7 +1,7 @@
 -- What a keeper makes of its buffer, on any bytes, and what one step of a session with a keeper makes of both.
 -- Nobody has to believe this file: the list theorem shows that it does what the rules over history say.
 use Prim.Native.Nat.{ℕ, _+_}
-use mathlib.Core.List.{List, [], _∷_}
+use mathlib.Core.List.{List, []}
 use mathlib.Core.Bool.{true, cond}
 use lib.Dec.{eqb}
 use lib.ListN.{length}
@@ -12,13 +12,12 @@ use Rattle.session.specs.declared.Answer.{Answer}
 use Rattle.session.specs.declared.Answer.the-variants as answer
 use Rattle.session.specs.declared.Session.{Session}
 use Rattle.session.specs.Events.{Event}
-use Rattle.session.specs.History.{given}
 use Rattle.session.specs.Rules.{accepts, Heard, unread, heard, hears}
 use Rattle.session.specs.Machine.{versionIn, placeIn, headIn, answerOf, storedOf}
 use Rattle.keeper.specs.declared.Reply.{Reply}
 use Rattle.keeper.specs.declared.Deed.{Deed}
 use Rattle.keeper.specs.declared.Deed.the-variants as deed
-use Rattle.keeper.specs.Rules.{kept, Doing, nothing, keeps, frees, drops, doing, recordOf, laid, Space, ruled, Call, call, Outcome}
+use Rattle.keeper.specs.Rules.{kept, Doing, nothing, keeps, frees, drops, doing, recordOf, laid, Space, ruled, Outcome}
 use Rattle.keeper.specs.Records.{Hold, hold, taken, removed}
 
 -- what the code hands on
@@ -87,10 +86,3 @@ heardAfter s b out (heard e) xs g = eventAfter s b out e xs g
 
 unfoldable pub stepOf : Session → Hold → List ℕ → List ℕ → ℕ → After
 stepOf s b out xs g = heardAfter s b out (hears (versionIn (headIn (s .head))) (placeIn (headIn (s .head))) xs) xs g
-
--- A LIST: each message goes to session and buffer as the last one left them, with an output of its own
-unfoldable pub run : Session → Hold → List Call → List Outcome
-run s b [] = []
-run s b (call (given xs g) out ∷ l) =
-    let r = stepOf s b out xs g in
-    r .outcome ∷ run (r .session) (hold (r .outcome .buffer) (r .outcome .held)) l

@@ -1,7 +1,7 @@
 // Streamed changes are held in a lent buffer until they commit: the step of a session with a keeper.
 ghost use mathlib.Core.Path.{_≡_};
 ghost use mathlib.Core.List.{List};
-ghost use Prim.Native.Nat.{ℕ};
+ghost use Prim.Native.Nat.{ℕ, _%_};
 ghost use Rattle.session.specs.Events.{Change};
 ghost use Rattle.session.specs.Machine.{sessionOf};
 ghost use Rattle.session.specs.Acts.{tuplesOf, eventIn};
@@ -54,26 +54,29 @@ fn step_change<'a>(
     marks: &'a mut [u8; 16],
     keys: &'a [u64; 256],
     tags: &'a [u64; 256],
-    identities: &'a [u8; 256],
-    columns: &'a [u16; 256],
+    ids: &'a [u8; 256],
+    cols: &'a [u16; 256],
     oid: u32,
     own: u64,
-    tuples: Tuples,
+    t: Tuples,
     bytes: &[u8],
     buffer: &mut [u8],
     held: &mut usize,
-) -> Answer
-    ensures { λ r. ⌜ ((tag : ℕ) (out : List ℕ) → after (sessionOf (now (head .exit)) (now (xids .entry)) (now (marks .exit)) (now (keys .entry)) (now (tags .entry)) (now (identities .entry)) (now (columns .entry))) (reply r 0) out (hold (now (buffer .exit)) (now (held .exit))) ≡ eventAfter (sessionOf (now (head .entry)) (now (xids .entry)) (now (marks .entry)) (now (keys .entry)) (now (tags .entry)) (now (identities .entry)) (now (columns .entry))) (hold (now (buffer .entry)) (now (held .entry))) out (Change own oid (tuplesOf tuples)) (now (bytes .entry)) tag) ⌝ }
+) -> Reply
+    ensures { λ r. ⌜ ((tag : ℕ) (out : List ℕ) → after (sessionOf (now (head .exit)) (now (xids .entry)) (now (marks .exit)) (now (keys .entry)) (now (tags .entry)) (now (ids .entry)) (now (cols .entry))) r out (hold (now (buffer .exit)) (now (held .exit))) ≡ eventAfter (sessionOf (now (head .entry)) (now (xids .entry)) (now (marks .entry)) (now (keys .entry)) (now (tags .entry)) (now (ids .entry)) (now (cols .entry))) (hold (now (buffer .entry)) (now (held .entry))) out (Change own oid (tuplesOf t)) (now (bytes .entry)) tag) ⌝ }
 {
     let at = *held;
     let place = stages::place_in(head);
-    let answer = stages::judge_change(head, keys, tags, identities, columns, oid, tuples);
+    let answer = stages::judge_change(head, keys, tags, ids, cols, oid, t);
     let said = holding::judge_change(place, buffer.len(), at, bytes.len(), answer);
     if session::accepted(said) {
         stages::apply_change(head, xids, marks);
         *held = holding::join(buffer, at, place, own, bytes);
     }
-    said
+    Reply {
+        answer: said,
+        released: 0,
+    }
 }
 
 // Gives it a message of another kind.
@@ -83,8 +86,8 @@ fn step_act<'a>(
     marks: &'a mut [u8; 16],
     keys: &'a mut [u64; 256],
     tags: &'a mut [u64; 256],
-    identities: &'a mut [u8; 256],
-    columns: &'a mut [u16; 256],
+    ids: &'a mut [u8; 256],
+    cols: &'a mut [u16; 256],
     a: Act,
     bytes: &[u8],
     tag: u64,
@@ -92,25 +95,37 @@ fn step_act<'a>(
     held: &mut usize,
     out: &mut [u8],
 ) -> Reply
-    ensures { λ r. ⌜ after (sessionOf (now (head .exit)) (now (xids .exit)) (now (marks .exit)) (now (keys .exit)) (now (tags .exit)) (now (identities .exit)) (now (columns .exit))) r (now (out .exit)) (hold (now (buffer .exit)) (now (held .exit))) ≡ eventAfter (sessionOf (now (head .entry)) (now (xids .entry)) (now (marks .entry)) (now (keys .entry)) (now (tags .entry)) (now (identities .entry)) (now (columns .entry))) (hold (now (buffer .entry)) (now (held .entry))) (now (out .entry)) (eventIn a (now (bytes .entry))) (now (bytes .entry)) tag ⌝ }
+    ensures { λ r. ⌜ after (sessionOf (now (head .exit)) (now (xids .exit)) (now (marks .exit)) (now (keys .exit)) (now (tags .exit)) (now (ids .exit)) (now (cols .exit))) r (now (out .exit)) (hold (now (buffer .exit)) (now (held .exit))) ≡ eventAfter (sessionOf (now (head .entry)) (now (xids .entry)) (now (marks .entry)) (now (keys .entry)) (now (tags .entry)) (now (ids .entry)) (now (cols .entry))) (hold (now (buffer .entry)) (now (held .entry))) (now (out .entry)) (eventIn a (now (bytes .entry))) (now (bytes .entry)) tag ⌝ }
 {
     let at = *held;
     let place = stages::place_in(head);
-    let answer = stages::judge_act(
-        head, xids, marks, keys, tags, identities, columns, a, bytes,
-    );
+    let answer = stages::judge_act(head, xids, marks, keys, tags, ids, cols, a, bytes);
     let d = holding::deed_of(a);
     let Reply {
         answer: said,
         released,
     } = holding::judge(buffer, at, out.len(), place, d, bytes.len(), answer);
     if session::accepted(said) {
-        stages::apply_act(head, xids, marks, keys, tags, identities, columns, a, tag);
+        stages::apply_act(head, xids, marks, keys, tags, ids, cols, a, tag);
         *held = holding::apply(buffer, at, out, place, d, bytes);
     }
     Reply {
         answer: said,
         released,
+    }
+}
+
+// What reading's refusal gets.
+fn unread(number: u64, offset: usize) -> Reply
+    ensures { λ r. ⌜ r ≡ reply (Answer.Refused (number % 256) offset) 0 ⌝ }
+{
+    let answer = Answer::Refused {
+        number: (number % 256) as u8,
+        offset,
+    };
+    Reply {
+        answer,
+        released: 0,
     }
 }
 
@@ -121,40 +136,57 @@ fn step_lent<'a>(
     marks: &'a mut [u8; 16],
     keys: &'a mut [u64; 256],
     tags: &'a mut [u64; 256],
-    identities: &'a mut [u8; 256],
-    columns: &'a mut [u16; 256],
+    ids: &'a mut [u8; 256],
+    cols: &'a mut [u16; 256],
     bytes: &[u8],
     tag: u64,
     buffer: &mut [u8],
     held: &mut usize,
     out: &mut [u8],
 ) -> Reply
-    ensures { λ r. ⌜ after (sessionOf (now (head .exit)) (now (xids .exit)) (now (marks .exit)) (now (keys .exit)) (now (tags .exit)) (now (identities .exit)) (now (columns .exit))) r (now (out .exit)) (hold (now (buffer .exit)) (now (held .exit))) ≡ stepOf (sessionOf (now (head .entry)) (now (xids .entry)) (now (marks .entry)) (now (keys .entry)) (now (tags .entry)) (now (identities .entry)) (now (columns .entry))) (hold (now (buffer .entry)) (now (held .entry))) (now (out .entry)) (now (bytes .entry)) tag ⌝ }
+    ensures { λ r. ⌜ after (sessionOf (now (head .exit)) (now (xids .exit)) (now (marks .exit)) (now (keys .exit)) (now (tags .exit)) (now (ids .exit)) (now (cols .exit))) r (now (out .exit)) (hold (now (buffer .exit)) (now (held .exit))) ≡ stepOf (sessionOf (now (head .entry)) (now (xids .entry)) (now (marks .entry)) (now (keys .entry)) (now (tags .entry)) (now (ids .entry)) (now (cols .entry))) (hold (now (buffer .entry)) (now (held .entry))) (now (out .entry)) (now (bytes .entry)) tag ⌝ }
 {
     let looked = stages::look(head, bytes);
     match looked {
-        Looked::Unread { number, offset } => {
-            let answer = Answer::Refused {
-                number: (number % 256) as u8,
-                offset,
-            };
-            Reply {
-                answer,
-                released: 0,
-            }
+        Looked::Unread { number, offset } => unread(number, offset),
+        Looked::Change {
+            oid,
+            xid,
+            tuples: t,
+        } => {
+            step_change(
+                head,
+                xids,
+                marks,
+                keys,
+                tags,
+                ids,
+                cols,
+                oid,
+                xid,
+                t,
+                bytes,
+                buffer,
+                held,
+            )
         }
-        Looked::Change { oid, xid, tuples } => {
-            let answer = step_change(
-                head, xids, marks, keys, tags, identities, columns, oid, xid, tuples, bytes, buffer, held,
-            );
-            Reply {
-                answer,
-                released: 0,
-            }
+        Looked::Other(a) => {
+            step_act(
+                head,
+                xids,
+                marks,
+                keys,
+                tags,
+                ids,
+                cols,
+                a,
+                bytes,
+                tag,
+                buffer,
+                held,
+                out,
+            )
         }
-        Looked::Other(a) => step_act(
-            head, xids, marks, keys, tags, identities, columns, a, bytes, tag, buffer, held, out,
-        ),
     }
 }
 

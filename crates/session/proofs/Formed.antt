@@ -1,4 +1,5 @@
--- A message that was read is well formed: no xid that a rule names is 0, and the OID of an announcement and the xid of a block are not 0 and numbers of 32 bits. Assumes nothing.
+-- A message that was read is well formed: no xid that a rule names is 0, and the OID of an announcement and the xid of a block are not 0 and numbers of 32 bits;
+-- so is the xid that a change carries, and the message's length. Assumes nothing.
 use Prim.Native.Nat.{ℕ, _+_, _≤_}
 use mathlib.Core.List.{List, [], _∷_}
 use mathlib.Core.Bool.{Bool, true, false, cond, _&&_}
@@ -6,18 +7,20 @@ use mathlib.Core.Path.{_≡_, refl, ap, _∙_}
 use native.Mathlib.Omega.{arith}
 use borrow.Author.Tests.{leb-true}
 use lib.Dec.{leb}
+use lib.ListN.{length}
 use Rattle.wire.specs.declared.Word.{Word}
 use Rattle.wire.specs.declared.Word.the-variants.{Value, Short}
 use Rattle.wire.specs.declared.Cursor.{Cursor}
 use Rattle.wire.specs.declared.Cursor.the-variants.{At, Refused}
 use Rattle.wire.specs.Numbers.{wordAt}
 use Rattle.wire.specs.Fields.{numberField, judged, noNumber, letterField}
+use Rattle.wire.proofs.Fields.{value-le}
 use Rattle.message.specs.declared.Version.{Version}
 use Rattle.message.specs.declared.Message.{Message}
 use Rattle.message.specs.declared.Read.the-variants as read
 use Rattle.message.specs.Layout.{Part, one, blockXid, groups, tuple, optionalTuple, text, groupsEnd, optional, xidField, readPart, readFields}
 use Rattle.message.specs.Kinds.{Kind, begin, commit, origin, relation, type, insert, update, delete, truncate, message, streamStart, streamStop, streamCommit, streamAbort, layout, identity, columns, lsn, time, flags, xid}
-use Rattle.message.specs.Messages.{messageOf, readMessage}
+use Rattle.message.specs.Messages.{messageOf, readMessage, largest}
 use Rattle.message.proofs.Accepted.{reached, accepted}
 use Rattle.catalog.specs.Table.{Small}
 use Rattle.columns.proofs.Stays.{field-stays, group-stays, groups-stay, tuple-stays}
@@ -35,8 +38,8 @@ Formed (Begin l x) = NonZero x
 Formed (Commit l) = Unit {0}
 Formed Origin = Unit {0}
 Formed (Relation o i c) = Id o
-Formed (Change x o ts) = Unit {0}
-Formed (Truncate x os) = Unit {0}
+Formed (Change x o ts) = Small x
+Formed (Truncate x os) = Small x
 Formed Neutral = Unit {0}
 Formed (Logical v) = Unit {0}
 Formed (StreamStart x first) = Id x
@@ -87,16 +90,22 @@ module _ (b : Bool) (xs : List ℕ) where
       let k = number-within 4 1 0xFFFF_FFFF 4 xs c (r .1) in
       ((λ z. omega (arith, k .0, z)), ((λ z. omega (arith, k .0, z)), omega (arith, k .1)))
 
+  -- the xid that a change carries in a block, else 0
+  xid-fits : (v : Bool) (c : Cursor) → Small (xidField v xs c .value)
+  unfolding xidField
+  xid-fits true c = omega (arith, value-le 4 1 0xFFFF_FFFF 4 xs c)
+  xid-fits false c = omega arith
+
   kind-formed : (k : Kind) (e : ℕ) → readFields b (layout k) xs (At 1) .next ≡ At e → Formed (eventOf (messageOf k (readFields b (layout k) xs (At 1) .parts)) xs)
   kind-formed begin e q = id-then [] _ e q .0
   kind-formed commit e q = tt
   kind-formed origin e q = tt
   kind-formed relation e q = id-then (one text ∷ one text ∷ identity ∷ columns ∷ []) _ e q .1
   kind-formed type e q = tt
-  kind-formed insert e q = tt
-  kind-formed update e q = tt
-  kind-formed delete e q = tt
-  kind-formed truncate e q = tt
+  kind-formed insert e q = xid-fits b (At 1)
+  kind-formed update e q = xid-fits b (At 1)
+  kind-formed delete e q = xid-fits b (At 1)
+  kind-formed truncate e q = xid-fits b (At 1)
   kind-formed message e q = tt
   kind-formed streamStart e q = id-then (flags 1 ∷ []) _ e q .1
   kind-formed streamStop e q = tt
@@ -105,3 +114,6 @@ module _ (b : Bool) (xs : List ℕ) where
 
   pub read-formed : (v : Version) (m : Message) → readMessage v b xs ≡ read.Message m → Formed (eventOf m xs)
   read-formed v m q = let a = accepted v b xs m q in rw (a .message) (kind-formed (a .kind) _ (a .ends))
+
+  pub read-short : (v : Version) (m : Message) → readMessage v b xs ≡ read.Message m → Small (length xs)
+  read-short v m q = let h : length xs ≤ largest = accepted v b xs m q .short in omega arith

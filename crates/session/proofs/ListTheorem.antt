@@ -27,7 +27,7 @@ use Rattle.session.proofs.Runs.{Agrees, says, versionFor, version-after
 known-not : (n : ℕ) → 4294967296 ≤ n → isKnown (record { number = n }) ≡ false
 known-not n h = rw (le-leb 1 n (omega arith), lt-leb n 2 (omega arith))
 
-start-hears : (start : Start) (p : Place) (xs : List ℕ) → hears (versionFor (startOf start)) p xs ≡ hears (versionOf start) p xs
+pub start-hears : (start : Start) (p : Place) (xs : List ℕ) → hears (versionFor (startOf start)) p xs ≡ hears (versionOf start) p xs
 unfolding startOf
 start-hears unnamed p xs = refl
 start-hears (named n) p xs = go (leb 4294967296 n) refl
@@ -36,7 +36,7 @@ start-hears (named n) p xs = go (leb 4294967296 n) refl
     go true e = unknown-hears (record { number = 0 }) refl p xs ∙ sym (unknown-hears (record { number = n }) (known-not n (leb-true 4294967296 n e)) p xs)
     go false e = refl
 
-starts : (start : Start) → Agrees (says (startOf start)) []
+pub starts : (start : Start) → Agrees (says (startOf start)) []
 unfolding startOf freshStreams freshTable
 starts start = fresh sorted sorted-lawful
 

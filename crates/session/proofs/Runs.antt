@@ -5,7 +5,7 @@ use mathlib.Core.Bool.{Bool, true, false, cond, not}
 use Prim.Native.Nat.{ℕ, _%_, _≤_}
 use native.Mathlib.Omega.{arith}
 use lib.Dec.{eqb}
-use lib.ListN.{getD}
+use lib.ListN.{length, getD}
 use Rattle.catalog.specs.Table.{Small}
 use Rattle.message.specs.declared.Version.{Version}
 use Rattle.message.specs.declared.Message.{Message}
@@ -24,20 +24,20 @@ use Rattle.session.specs.State.{Layout, StateOf, State, sorted, answerIn
 use Rattle.session.specs.Machine.{versionIn, placeOf, phaseOf, currentOf, lsnOf, Parts, view, written, partsOf, made, heardStep, stepOf}
 use Rattle.session.specs.Runs.{run, after}
 use Rattle.session.specs.Layouts.{answerHeard, stateHeard, runBy}
-use Rattle.session.proofs.Formed.{Formed, read-formed}
+use Rattle.session.proofs.Formed.{Formed, read-formed, read-short}
 use Rattle.session.proofs.Lawful.{Lawful, sorted-lawful, sorted-sound}
 use Rattle.session.proofs.Agreement as agreement
 use Rattle.session.proofs.Agreement.{same-answer, kept}
 
--- WHAT IS HEARD is well formed
-abbrev Well : Heard → Type 0
-Well (unread n o) = Unit {0}
-Well (heard e) = Formed e
+-- WHAT IS HEARD is well formed, and of bytes of a length that fits 32 bits
+abbrev pub Well : List ℕ → Heard → Type 0
+Well xs (unread n o) = Unit {0}
+Well xs (heard e) = Formed e × Small (length xs)
 
-hears-well : (v : Version) (p : Place) (xs : List ℕ) → Well (hears v p xs)
-hears-well v p xs = go (readMessage v (inBlock p) xs) (λ m q. read-formed (inBlock p) xs v m q)
+pub hears-well : (v : Version) (p : Place) (xs : List ℕ) → Well xs (hears v p xs)
+hears-well v p xs = go (readMessage v (inBlock p) xs) (λ m q. (read-formed (inBlock p) xs v m q, read-short (inBlock p) xs v m q))
   where
-    go : (r : Read) → ((m : Message) → r ≡ read.Message m → Formed (eventOf m xs)) → Well (heardOf r xs)
+    go : (r : Read) → ((m : Message) → r ≡ read.Message m → Formed (eventOf m xs) × Small (length xs)) → Well xs (heardOf r xs)
     go (read.Refused k) f = tt
     go (read.Message m) f = f m refl
 
@@ -48,9 +48,9 @@ module _ (L : Layout) (laws : Lawful L) where
     judged e f true ok = kept L laws s h a e (given xs g) f ok
     judged e f false ok = a
 
-    follows : (r : Heard) → Well r → (answerHeard L s r ≡ answerTo rooms h r) × agreement.Agrees L laws (stateHeard L s r g) (historyAfter rooms h r (given xs g))
+    follows : (r : Heard) → Well xs r → (answerHeard L s r ≡ answerTo rooms h r) × agreement.Agrees L laws (stateHeard L s r g) (historyAfter rooms h r (given xs g))
     follows (unread n o) f = (refl, a)
-    follows (heard e) f = rw (same-answer L laws s h a e) (refl, judged e f (accepts (judge rooms h e)) refl)
+    follows (heard e) f = rw (same-answer L laws s h a e) (refl, judged e (f .0) (accepts (judge rooms h e)) refl)
 
   pub layout-run : (v : Version) (l : List Given) (s : StateOf (L .Rows)) (h : History) → agreement.Agrees L laws s h → runBy L v s l ≡ answers v h l
   unfolding runBy answersBy
@@ -74,7 +74,7 @@ versionFor s = versionIn (partsOf s .head)
 -- THE WORDS of a head give back what they were made of
 
 -- an xid that has its place in a word
-abbrev Fits : Place → Type 0
+abbrev pub Fits : Place → Type 0
 Fits Idle = Unit {0}
 Fits (Transaction l) = Unit {0}
 Fits (Block x) = Small x
@@ -95,7 +95,7 @@ view-written v p n f few =
     rw (place-again (n .place) (p .head .«current_xid») (p .head .«final_lsn») f, bit-again (n .changed), e)
 
 -- every record stands where its words can say it, and so does the next
-place-fits : (phase current lsn : ℕ) → Fits (placeOf phase (current % 4294967296) lsn)
+pub place-fits : (phase current lsn : ℕ) → Fits (placeOf phase (current % 4294967296) lsn)
 place-fits phase current lsn = go (eqb phase 1) (eqb phase 2)
   where
     go : (u v : Bool) → Fits (cond u (Transaction lsn) (cond v (Block (current % 4294967296)) Idle))
@@ -130,9 +130,9 @@ module _ (s : Session) (g : ℕ) where
       (sorted-sound (stateAfter (says s) e g .table) (k .table .sound) .few)
   event-says e f false h k = refl
 
-  heard-says : (r : Heard) → Well r → (h : History) → Agrees (stateHeard sorted (says s) r g) h → says (heardStep s r g .session) ≡ stateHeard sorted (says s) r g
-  heard-says (unread n o) f h k = refl
-  heard-says (heard e) f h k = event-says e f (accepts (answerIn (says s) e)) h k
+  heard-says : (xs : List ℕ) (r : Heard) → Well xs r → (h : History) → Agrees (stateHeard sorted (says s) r g) h → says (heardStep s r g .session) ≡ stateHeard sorted (says s) r g
+  heard-says xs (unread n o) f h k = refl
+  heard-says xs (heard e) f h k = event-says e (f .0) (accepts (answerIn (says s) e)) h k
 
   heard-answers : (r : Heard) → heardStep s r g .answer ≡ answerHeard sorted (says s) r
   heard-answers (unread n o) = refl
@@ -151,10 +151,10 @@ module _ (s : Session) (h : History) (a : Agrees (says s) h) (xs : List ℕ) (g 
   abbrev Follows : Stepped → Heard → Type 0
   Follows n r = (n .answer ≡ answerTo rooms h r) × Agrees (says (n .session)) (historyAfter rooms h r (given xs g)) × (versionFor (n .session) ≡ versionFor s)
 
-  heard-follows : (r : Heard) → Well r → Follows (heardStep s r g) r
+  pub heard-follows : (r : Heard) → Well xs r → Follows (heardStep s r g) r
   heard-follows r f =
       let k = follows sorted sorted-lawful (says s) h a xs g r f in
-      (heard-answers s g r ∙ k .0, rw (heard-says s g r f (historyAfter rooms h r (given xs g)) (k .1)) (k .1), version-stays s g r)
+      (heard-answers s g r ∙ k .0, rw (heard-says s g xs r f (historyAfter rooms h r (given xs g)) (k .1)) (k .1), version-stays s g r)
 
   pub step-follows : Follows (stepOf s xs g) (hears (versionFor s) (place h) xs)
   unfolding stepOf

@@ -14,9 +14,8 @@ mod asking;
 mod heads;
 mod judging;
 mod rules;
-mod storing;
-
 pub mod stages;
+mod storing;
 
 pub use asking::place_of;
 pub use asking::read_in;
@@ -180,7 +179,15 @@ fn step_lent<'a>(
         }
         Looked::Other(a) => {
             let answer = stages::judge_act(
-                head, xids, marks, keys, tags, identities, columns, a, bytes,
+                head,
+                xids,
+                marks,
+                keys,
+                tags,
+                identities,
+                columns,
+                a,
+                bytes,
             );
             if rules::accepted(answer) {
                 stages::apply_act(head, xids, marks, keys, tags, identities, columns, a, tag);

@@ -1,4 +1,4 @@
-//! Compiles a C file against the header and the archive, runs it and gives what it prints.
+//! Compiles a C file against the header and the archives, runs it and gives what it prints.
 use std::path::Path;
 use std::process::Command;
 
@@ -8,7 +8,7 @@ pub fn run(source: &Path, name: &str) -> String {
     let program = Path::new(env!("CARGO_TARGET_TMPDIR")).join(name);
     let mut compiler = Command::new("cc");
     compiler.args(["-std=c11", "-Wall", "-Wextra", "-Werror", "-pedantic", "-I", INCLUDE, "-o"]);
-    compiler.arg(&program).arg(source).arg(env!("KITSORIQU_ARCHIVE"));
+    compiler.arg(&program).arg(source).arg(env!("KITSORIQU_ARCHIVE")).arg(env!("KITSORIQU_KEEPER_ARCHIVE"));
     assert!(compiler.status().expect("cc is there").success(), "{} compiles", source.display());
     let run = Command::new(&program).output().unwrap();
     assert!(run.status.success(), "{} runs", source.display());

@@ -6,10 +6,10 @@ use Rattle.feeds.proofs.run_arguments.Statement.{statement}
 use Rattle.feeds.proofs.run_arguments.Tie as tie
 
 abbrev Inv-loop : tie.InvT-loop
-Inv-loop count room₀ k₀ room k = length room ≡ length room₀
+Inv-loop count room₀ buffer₀ out₀ k₀ room buffer out k = (length room ≡ length room₀) × (length buffer ≡ length buffer₀) × (length out ≡ length out₀)
 
 abbrev μ-loop : tie.MeasureT-loop
-μ-loop count room₀ k₀ room k = count - k
+μ-loop count room₀ buffer₀ out₀ k₀ room buffer out k = count - k
 
 loop-holds : tie.Need-loop-holds Inv-loop μ-loop
 loop-holds c = omega arith
@@ -29,8 +29,14 @@ loop-again c = omega arith
 same-length : tie.Need-same-length Inv-loop μ-loop
 same-length c = omega arith
 
+same-length-2 : tie.Need-same-length-2 Inv-loop μ-loop
+same-length-2 c = omega arith
+
+same-length-3 : tie.Need-same-length-3 Inv-loop μ-loop
+same-length-3 c = omega arith
+
 returns : tie.Need-returns Inv-loop μ-loop
-returns c = omega arith
+returns c = tt
 
 pub run-arguments-spec : {M : Type 1} → statement M
 run-arguments-spec =
@@ -44,4 +50,6 @@ run-arguments-spec =
     loop-less
     loop-again
     same-length
+    same-length-2
+    same-length-3
     returns)

@@ -314,7 +314,7 @@ module _ {M : Type 1} (𝓤 : URA M) (H : Heap 𝓤) (A : Atoms 𝓤) (W : Given
   back-all : (ν : ℕ) (δ : Names) (zs : List ℕ × (List ℕ × (List ℕ × (List ℕ × (List ℕ × (List ℕ × (List ℕ × (Unit {0} × (Unit {0} × (List ℕ × (ℕ × (List ℕ × (Unit {0}))))))))))))) → ent 𝓤 (sep 𝓤 (A .lft (ν ∷ []) fullShare) (sep 𝓤 (sem 𝓤 H A (lasts g.ended (ν ∷ [], (κ′, (λ0, (λ1, (λ2, tt))))) (lent0 (δ .0), (lent1 (δ .1 .0), (lent2 (δ .1 .1 .0), (lent3 (δ .1 .1 .1 .0), (lent4 (δ .1 .1 .1 .1 .0), (lent5 (δ .1 .1 .1 .1 .1 .0), (lent6 (δ .1 .1 .1 .1 .1 .1 .0), (bytes, (tag, (x0, (x1, (x2, tt)))))))))))) zs)) (Lents ν δ))) (H .⇛ (guard 𝓤 (Iss zs) (sep 𝓤 (H .at fullShare T′.mir b o (mach (arr-u64x6 (zs .0)) (arr-u32x16 (zs .1 .0)) (arr-u8x16 (zs .1 .1 .0)) (arr-u64x256 (zs .1 .1 .1 .0)) (arr-u64x256 (zs .1 .1 .1 .1 .0)) (arr-u8x256 (zs .1 .1 .1 .1 .1 .0)) (arr-u16x256 (zs .1 .1 .1 .1 .1 .1 .0)))) (sem 𝓤 H A (Tail ν (zs .1 .1 .1 .1 .1 .1 .1 .1 .1 .0) (zs .1 .1 .1 .1 .1 .1 .1 .1 .1 .1 .0) (zs .1 .1 .1 .1 .1 .1 .1 .1 .1 .1 .1 .0))))))
   back-all ν δ zs =
       qed W (‵ (flft (ν ∷ []) fullShare) ∷ ‵ (lasts g.ended (ν ∷ [], (κ′, (λ0, (λ1, (λ2, tt))))) (lent0 (δ .0), (lent1 (δ .1 .0), (lent2 (δ .1 .1 .0), (lent3 (δ .1 .1 .1 .0), (lent4 (δ .1 .1 .1 .1 .0), (lent5 (δ .1 .1 .1 .1 .1 .0), (lent6 (δ .1 .1 .1 .1 .1 .1 .0), (bytes, (tag, (x0, (x1, (x2, tt)))))))))))) zs) ∷ ‵ (flent (ν ∷ []) (Body (mem (Array u64 6)) b (o + 0) (δ .0))) ∷ ‵ (flent (ν ∷ []) (Body (mem (Array u32 16)) b (o + 48) (δ .1 .0))) ∷ ‵ (flent (ν ∷ []) (Body (mem (Array u8 16)) b (o + 112) (δ .1 .1 .0))) ∷ ‵ (flent (ν ∷ []) (Body (mem (Array u64 256)) b (o + 128) (δ .1 .1 .1 .0))) ∷ ‵ (flent (ν ∷ []) (Body (mem (Array u64 256)) b (o + 2176) (δ .1 .1 .1 .1 .0))) ∷ ‵ (flent (ν ∷ []) (Body (mem (Array u8 256)) b (o + 4224) (δ .1 .1 .1 .1 .1 .0))) ∷ ‵ (flent (ν ∷ []) (Body (mem (Array u16 256)) b (o + 4480) (δ .1 .1 .1 .1 .1 .1 .0))) ∷ raw Kept ∷ []) ∵ updating ! $ move ! (1 ∷ []) $ fsplit ! $ move ! (1 ∷ []) $ fsplit ! $ move ! (1 ∷ []) $ fsplit ! $ move ! (1 ∷ []) $ fsplit ! $ move ! (1 ∷ []) $ fsplit ! $ move ! (1 ∷ []) $ fsplit ! $ move ! (1 ∷ []) $ fsplit ! $ move ! (1 ∷ []) $
-      move ! (8 ∷ []) $ lft-end ! tt $ use1 W (‵ (fdead (ν ∷ [])) ⊛ ‵ (fdead (ν ∷ []))) (W .lfts .dead-dup (ν ∷ [])) $ split ! $ use1 W (‵ (fdead (ν ∷ [])) ⊛ ‵ (fdead (ν ∷ []))) (W .lfts .dead-dup (ν ∷ [])) $ split ! $ use1 W (‵ (fdead (ν ∷ [])) ⊛ ‵ (fdead (ν ∷ []))) (W .lfts .dead-dup (ν ∷ [])) $ split ! $ use1 W (‵ (fdead (ν ∷ [])) ⊛ ‵ (fdead (ν ∷ []))) (W .lfts .dead-dup (ν ∷ [])) $ split ! $ use1 W (‵ (fdead (ν ∷ [])) ⊛ ‵ (fdead (ν ∷ []))) (W .lfts .dead-dup (ν ∷ [])) $ split ! $ use1 W (‵ (fdead (ν ∷ [])) ⊛ ‵ (fdead (ν ∷ []))) (W .lfts .dead-dup (ν ∷ [])) $ split ! $ 
+      move ! (8 ∷ []) $ lft-end ! tt $ use1 W (‵ (fdead (ν ∷ [])) ⊛ ‵ (fdead (ν ∷ []))) (W .lfts .dead-dup (ν ∷ [])) $ split ! $ use1 W (‵ (fdead (ν ∷ [])) ⊛ ‵ (fdead (ν ∷ []))) (W .lfts .dead-dup (ν ∷ [])) $ split ! $ use1 W (‵ (fdead (ν ∷ [])) ⊛ ‵ (fdead (ν ∷ []))) (W .lfts .dead-dup (ν ∷ [])) $ split ! $ use1 W (‵ (fdead (ν ∷ [])) ⊛ ‵ (fdead (ν ∷ []))) (W .lfts .dead-dup (ν ∷ [])) $ split ! $ use1 W (‵ (fdead (ν ∷ [])) ⊛ ‵ (fdead (ν ∷ []))) (W .lfts .dead-dup (ν ∷ [])) $ split ! $ use1 W (‵ (fdead (ν ∷ [])) ⊛ ‵ (fdead (ν ∷ []))) (W .lfts .dead-dup (ν ∷ [])) $ split ! $
       move ! (0 ∷ 15 ∷ 14 ∷ []) $ use3 W (later (‵ (mem (Array u64 6) .lies (zs .0) b (o + 0)))) (ref-back 𝓤 H A W (Array u64 6) (ν ∷ []) (δ .0) (zs .0) b (o + 0)) $ await ! tt $ use1 W (‵ (fat fullShare (tyArray (tyInt w64) 6) b (o + 0) (arr-u64x6 (zs .0))) ⊛ ‵ ((Array u64 6) .own (zs .0) ((arr-u64x6 (zs .0)) ∷ []))) (out-u64x6 𝓤 H A W b (o + 0) (zs .0)) $ split ! $ move ! (1 ∷ []) $ peeks ! (Array u64 6) (Is (Array u64 6)) (shows 𝓤 H A (Array u64 6)) (zs .0) ((arr-u64x6 (zs .0)) ∷ []) (λ is0. drop ! $
       move ! (1 ∷ 14 ∷ 13 ∷ []) $ use3 W (later (‵ (mem (Array u32 16) .lies (zs .1 .0) b (o + 48)))) (ref-back 𝓤 H A W (Array u32 16) (ν ∷ []) (δ .1 .0) (zs .1 .0) b (o + 48)) $ await ! tt $ use1 W (‵ (fat fullShare (tyArray (tyInt w32) 16) b (o + 48) (arr-u32x16 (zs .1 .0))) ⊛ ‵ ((Array u32 16) .own (zs .1 .0) ((arr-u32x16 (zs .1 .0)) ∷ []))) (out-u32x16 𝓤 H A W b (o + 48) (zs .1 .0)) $ split ! $ move ! (1 ∷ []) $ peeks ! (Array u32 16) (Is (Array u32 16)) (shows 𝓤 H A (Array u32 16)) (zs .1 .0) ((arr-u32x16 (zs .1 .0)) ∷ []) (λ is1. drop ! $
       move ! (2 ∷ 13 ∷ 12 ∷ []) $ use3 W (later (‵ (mem (Array u8 16) .lies (zs .1 .1 .0) b (o + 112)))) (ref-back 𝓤 H A W (Array u8 16) (ν ∷ []) (δ .1 .1 .0) (zs .1 .1 .0) b (o + 112)) $ await ! tt $ use1 W (‵ (fat fullShare (tyArray (tyInt w8) 16) b (o + 112) (arr-u8x16 (zs .1 .1 .0))) ⊛ ‵ ((Array u8 16) .own (zs .1 .1 .0) ((arr-u8x16 (zs .1 .1 .0)) ∷ []))) (out-u8x16 𝓤 H A W b (o + 112) (zs .1 .1 .0)) $ split ! $ move ! (1 ∷ []) $ peeks ! (Array u8 16) (Is (Array u8 16)) (shows 𝓤 H A (Array u8 16)) (zs .1 .1 .0) ((arr-u8x16 (zs .1 .1 .0)) ∷ []) (λ is2. drop ! $

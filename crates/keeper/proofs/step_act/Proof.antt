@@ -38,13 +38,13 @@ same-length-2 : tie.Need-same-length-2
 same-length-2 c = search needs
 
 returns : tie.Need-returns
-returns c = let a = c .before .before .before .before .before .before .before .before .before .before .before .before .before .before .before .before .before .before .before .before .before .before .before .before .before .before .before .before .before .before .before .before .before .before .args in both-stored (sessionOf (a .head .now) (a .xids .now) (a .marks .now) (a .keys .now) (a .tags .now) (a .identities .now) (a .columns .now)) (hold (a .buffer .now) (a .held .now)) (a .out .now) (a .bytes .now) (eventIn (a .a) (a .bytes .now)) (a .tag) (deedOf (c .before .before .before .before .before .before .before .before .before .before .before .before .before .before .before .before .before .before .before .deed-of .result)) (c .before .before .before .before .before .before .before .before .before .before .before .before .before .before .before .before .before .before .before .deed-of .ensures (a .bytes .now)) _ (c .before .before .before .before .before .before .before .before .before .before .before .before .before .before .before .before .before .before .before .before .before .before .before .before .before .before .before .before .place-in .ensures) (c .before .before .before .before .before .before .before .before .before .before .before .before .before .before .before .before .before .before .before .before .judge-act .result) _ (c .before .before .before .before .before .before .before .before .before .before .before .before .before .before .before .before .before .before .before .before .judge-act .ensures) (ap (λ x. x .answer) (c .before .before .before .before .before .before .before .before .before .before .before .before .before .before .before .before .before .judge .ensures)) (sym (c .before .before .before .before .before .before .before .before .before .before .before .before .before .before .before .before .accepted .ensures) ∙ c .before .before .before .before .before .before .before .before .before .before .before .before .before .before .before .if1 .taken) _ (replied-some _ _ _ (c .before .before .before .before .before .before .before .before .before .before .before .before .before .before .before .before .before .judge .ensures) (sym (c .before .before .before .before .before .before .before .before .before .before .before .before .before .before .before .before .accepted .ensures) ∙ c .before .before .before .before .before .before .before .before .before .before .before .before .before .before .before .if1 .taken)) _ _ _ (c .before .before .before .before .before .before .before .apply-act .ensures (a .bytes .now)) (c .before .before .before .before .apply .ensures .0) (c .before .before .before .before .apply .ensures .1)
+returns c = let a = c .before .before .before .before .before .before .before .before .before .before .before .before .before .before .before .before .before .before .before .before .before .before .before .before .before .before .before .before .before .before .before .before .before .before .args in both-stored (sessionOf (a .head .now) (a .xids .now) (a .marks .now) (a .keys .now) (a .tags .now) (a .ids .now) (a .cols .now)) (hold (a .buffer .now) (a .held .now)) (a .out .now) (a .bytes .now) (eventIn (a .a) (a .bytes .now)) (a .tag) (deedOf (c .before .before .before .before .before .before .before .before .before .before .before .before .before .before .before .before .before .before .before .deed-of .result)) (c .before .before .before .before .before .before .before .before .before .before .before .before .before .before .before .before .before .before .before .deed-of .ensures (a .bytes .now)) _ (c .before .before .before .before .before .before .before .before .before .before .before .before .before .before .before .before .before .before .before .before .before .before .before .before .before .before .before .before .place-in .ensures) (c .before .before .before .before .before .before .before .before .before .before .before .before .before .before .before .before .before .before .before .before .judge-act .result) _ (c .before .before .before .before .before .before .before .before .before .before .before .before .before .before .before .before .before .before .before .before .judge-act .ensures) (ap (λ x. x .answer) (c .before .before .before .before .before .before .before .before .before .before .before .before .before .before .before .before .before .judge .ensures)) (sym (c .before .before .before .before .before .before .before .before .before .before .before .before .before .before .before .before .accepted .ensures) ∙ c .before .before .before .before .before .before .before .before .before .before .before .before .before .before .before .if1 .taken) _ (replied-some _ _ _ (c .before .before .before .before .before .before .before .before .before .before .before .before .before .before .before .before .before .judge .ensures) (sym (c .before .before .before .before .before .before .before .before .before .before .before .before .before .before .before .before .accepted .ensures) ∙ c .before .before .before .before .before .before .before .before .before .before .before .before .before .before .before .if1 .taken)) _ _ _ (c .before .before .before .before .before .before .before .apply-act .ensures (a .bytes .now)) (c .before .before .before .before .apply .ensures .0) (c .before .before .before .before .apply .ensures .1)
 
 same-length-3 : tie.Need-same-length-3
 same-length-3 c = search needs
 
 returns-2 : tie.Need-returns-2
-returns-2 c = let a = c .before .before .before .before .before .before .before .before .before .before .before .before .before .before .before .before .before .before .before .args in left-alone (sessionOf (a .head .now) (a .xids .now) (a .marks .now) (a .keys .now) (a .tags .now) (a .identities .now) (a .columns .now)) (hold (a .buffer .now) (a .held .now)) (a .out .now) (a .bytes .now) (eventIn (a .a) (a .bytes .now)) (a .tag) (deedOf (c .before .before .before .before .deed-of .result)) (c .before .before .before .before .deed-of .ensures (a .bytes .now)) _ (c .before .before .before .before .before .before .before .before .before .before .before .before .before .place-in .ensures) (c .before .before .before .before .before .judge-act .result) _ (c .before .before .before .before .before .judge-act .ensures) (ap (λ x. x .answer) (c .before .before .judge .ensures)) (sym (c .before .accepted .ensures) ∙ c .if1 .left) _ (replied-none _ _ _ (c .before .before .judge .ensures) (sym (c .before .accepted .ensures) ∙ c .if1 .left))
+returns-2 c = let a = c .before .before .before .before .before .before .before .before .before .before .before .before .before .before .before .before .before .before .before .args in left-alone (sessionOf (a .head .now) (a .xids .now) (a .marks .now) (a .keys .now) (a .tags .now) (a .ids .now) (a .cols .now)) (hold (a .buffer .now) (a .held .now)) (a .out .now) (a .bytes .now) (eventIn (a .a) (a .bytes .now)) (a .tag) (deedOf (c .before .before .before .before .deed-of .result)) (c .before .before .before .before .deed-of .ensures (a .bytes .now)) _ (c .before .before .before .before .before .before .before .before .before .before .before .before .before .place-in .ensures) (c .before .before .before .before .before .judge-act .result) _ (c .before .before .before .before .before .judge-act .ensures) (ap (λ x. x .answer) (c .before .before .judge .ensures)) (sym (c .before .accepted .ensures) ∙ c .if1 .left) _ (replied-none _ _ _ (c .before .before .judge .ensures) (sym (c .before .accepted .ensures) ∙ c .if1 .left))
 
 pub step-act-spec : {M : Type 1} → statement M
 step-act-spec =

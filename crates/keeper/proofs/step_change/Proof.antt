@@ -33,10 +33,10 @@ same-length : tie.Need-same-length
 same-length c = search needs
 
 returns : tie.Need-returns
-returns c = let a = c .before .before .before .before .before .before .before .before .before .before .before .before .before .before .before .before .before .args in λ tag out. both-stored (sessionOf (a .head .now) (a .xids .now) (a .marks .now) (a .keys .now) (a .tags .now) (a .identities .now) (a .columns .now)) (hold (a .buffer .now) (a .held .now)) out (a .bytes .now) (Change (a .own) (a .oid) (tuplesOf (a .tuples))) tag (keeps (a .own)) refl _ (c .before .before .before .before .before .before .before .before .before .before .before .before .place-in .ensures) (c .before .before .before .before .before .before .before .before .before .before .judge-change .result) _ (c .before .before .before .before .before .before .before .before .before .before .judge-change .ensures (a .xids .now) (a .marks .now) (a .own)) (c .before .before .before .before .before .before .before .before .before .judge-change2 .ensures (length out) 0 (a .own)) (sym (c .before .before .before .before .before .before .before .before .accepted .ensures) ∙ c .before .before .before .before .before .before .before .if1 .taken) _ refl _ _ _ (c .before .before .before .before .apply-change .ensures (a .keys .now) (a .tags .now) (a .identities .now) (a .columns .now) (a .own) (a .oid) (tuplesOf (a .tuples)) tag) refl (c .before .before .join .ensures)
+returns c = let a = c .before .before .before .before .before .before .before .before .before .before .before .before .before .before .before .before .before .args in λ tag out. both-stored (sessionOf (a .head .now) (a .xids .now) (a .marks .now) (a .keys .now) (a .tags .now) (a .ids .now) (a .cols .now)) (hold (a .buffer .now) (a .held .now)) out (a .bytes .now) (Change (a .own) (a .oid) (tuplesOf (a .t))) tag (keeps (a .own)) refl _ (c .before .before .before .before .before .before .before .before .before .before .before .before .place-in .ensures) (c .before .before .before .before .before .before .before .before .before .before .judge-change .result) _ (c .before .before .before .before .before .before .before .before .before .before .judge-change .ensures (a .xids .now) (a .marks .now) (a .own)) (c .before .before .before .before .before .before .before .before .before .judge-change2 .ensures (length out) 0 (a .own)) (sym (c .before .before .before .before .before .before .before .before .accepted .ensures) ∙ c .before .before .before .before .before .before .before .if1 .taken) _ refl _ _ _ (c .before .before .before .before .apply-change .ensures (a .keys .now) (a .tags .now) (a .ids .now) (a .cols .now) (a .own) (a .oid) (tuplesOf (a .t)) tag) refl (c .before .before .join .ensures)
 
 returns-2 : tie.Need-returns-2
-returns-2 c = let a = c .before .before .before .before .before .before .before .before .before .before .args in λ tag out. left-alone (sessionOf (a .head .now) (a .xids .now) (a .marks .now) (a .keys .now) (a .tags .now) (a .identities .now) (a .columns .now)) (hold (a .buffer .now) (a .held .now)) out (a .bytes .now) (Change (a .own) (a .oid) (tuplesOf (a .tuples))) tag (keeps (a .own)) refl _ (c .before .before .before .before .before .place-in .ensures) (c .before .before .before .judge-change .result) _ (c .before .before .before .judge-change .ensures (a .xids .now) (a .marks .now) (a .own)) (c .before .before .judge-change2 .ensures (length out) 0 (a .own)) (sym (c .before .accepted .ensures) ∙ c .if1 .left) _ refl
+returns-2 c = let a = c .before .before .before .before .before .before .before .before .before .before .args in λ tag out. left-alone (sessionOf (a .head .now) (a .xids .now) (a .marks .now) (a .keys .now) (a .tags .now) (a .ids .now) (a .cols .now)) (hold (a .buffer .now) (a .held .now)) out (a .bytes .now) (Change (a .own) (a .oid) (tuplesOf (a .t))) tag (keeps (a .own)) refl _ (c .before .before .before .before .before .place-in .ensures) (c .before .before .before .judge-change .result) _ (c .before .before .before .judge-change .ensures (a .xids .now) (a .marks .now) (a .own)) (c .before .before .judge-change2 .ensures (length out) 0 (a .own)) (sym (c .before .accepted .ensures) ∙ c .if1 .left) _ refl
 
 pub step-change-spec : {M : Type 1} → statement M
 step-change-spec =

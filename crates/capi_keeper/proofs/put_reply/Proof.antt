@@ -1,6 +1,8 @@
+-- `capi_keeper::put_reply` meets its contract. Assumes nothing.
+use mathlib.Core.Path.{refl}
 use borrow.Author.Needs.{needs}
-use Rattle.capi.proofs.keepers.put_reply.Statement.{statement}
-use Rattle.capi.proofs.keepers.put_reply.Tie as tie
+use Rattle.capi_keeper.proofs.put_reply.Statement.{statement}
+use Rattle.capi_keeper.proofs.put_reply.Tie as tie
 
 enum-told : tie.Need-enum-told
 enum-told c = search needs
@@ -21,13 +23,13 @@ cast-result : tie.Need-cast-result
 cast-result c = search needs
 
 returns : tie.Need-returns
-returns c = rw (c .before .enum-told .given .1)
+returns c = rw (c .before .enum-told .given .1) (refl, refl)
 
 returns-2 : tie.Need-returns-2
-returns-2 c = rw (c .before .before .answer .given .1)
+returns-2 c = rw (c .before .before .answer .given .1) (refl, refl)
 
 returns-3 : tie.Need-returns-3
-returns-3 c = rw (c .before .before .answer2 .given .1)
+returns-3 c = rw (c .before .before .answer2 .given .1) (refl, refl)
 
 pub put-reply-spec : {M : Type 1} → statement M
 put-reply-spec =

@@ -1,4 +1,4 @@
--- `capi::keepers::kq_keeper_give` meets its contract: a walk of its MIR, by hand. The references to the session, the buffer, the number of bytes held and the output are passed on to `keeper::give_lent`, and the reply's to `put_reply`, each at its own lifetime, share and name: what the callees say of their last values is what this function says.
+-- `capi_keeper::kq_keeper_give` meets its contract: a walk of its MIR, by hand. The references to the session, the buffer, the number of bytes held and the output are passed on to `keeper::give_lent`, and the reply's to `put_reply`, each at its own lifetime, share and name: what the callees say of their last values is what this function says.
 -- All that the proof knows of the two is that they meet their contracts. Assumes nothing.
 use mathlib.Core.Path.{_≡_, refl, ap, _∙_}
 use Prim.Native.Nat.{ℕ, _<_, _^_}
@@ -42,8 +42,7 @@ use Rattle.keeper.specs.Records.{hold}
 use Rattle.keeper.specs.Machine.{After, after, stepOf}
 use Rattle.session.specs.declared.Session.{Session}
 use Rattle.keeper.specs.declared.Reply.{Reply}
-use Rattle.capi.specs.Filled.{filled}
-use Rattle.capi.specs.Sessions.{replyNumbers}
+use Rattle.capi_keeper.specs.Replies.{returned, numbers}
 use Rattle.session.proofs.Session as T
 use Rattle.keeper.proofs.Reply as R
 use Rattle.keeper.proofs.Reply.Laws as R′
@@ -51,27 +50,37 @@ use Rattle.keeper.proofs.give_lent as g
 use Rattle.keeper.proofs.give_lent.Symbol as g-def
 use Rattle.keeper.proofs.give_lent.Symbol.{name as #keeper·give-lent}
 use Rattle.keeper.proofs.give_lent.Met as g-thm
-use Rattle.capi.proofs.keepers.put_reply as p
-use Rattle.capi.proofs.keepers.put_reply.Symbol as p-def
-use Rattle.capi.proofs.keepers.put_reply.Symbol.{name as #capi·put-reply}
-use Rattle.capi.proofs.keepers.put_reply.Met as p-thm
-use Rattle.capi.proofs.keepers.kq_keeper_give.Key.{name as #capi·kq-keeper-give}
-use Rattle.capi.proofs.keepers.kq_keeper_give as f
-use Rattle.capi.proofs.keepers.kq_keeper_give.Statement as stated
-use Rattle.capi.proofs.keepers.kq_keeper_give.Code as code
+use Rattle.capi_keeper.proofs.put_reply as p
+use Rattle.capi_keeper.proofs.put_reply.Symbol as p-def
+use Rattle.capi_keeper.proofs.put_reply.Symbol.{name as #capi_keeper·put-reply}
+use Rattle.capi_keeper.proofs.put_reply.Met as p-thm
+use Rattle.capi_keeper.proofs.kq_keeper_give.Key.{name as #capi_keeper·kq-keeper-give}
+use Rattle.capi_keeper.proofs.kq_keeper_give as f
+use Rattle.capi_keeper.proofs.kq_keeper_give.Statement as stated
+use Rattle.capi_keeper.proofs.kq_keeper_give.Code as code
 
 abbrev stayed : Stays (f.ended .signature .params) (f.ended .kept)
-stayed = (gave-ref (0 ∷ []) tt (plain (λ _. T.the-row)), (stay-none-slice (1 ∷ []) tt (plain (λ _. u8)) yes, (stay-none (λ _. u64) yes, (gave-slice (2 ∷ []) tt (plain (λ _. u8)), (gave-ref (3 ∷ []) tt (plain (λ _. usize)), (gave-slice (4 ∷ []) tt (plain (λ _. u8)), (gave-ref (5 ∷ []) tt (plain (λ _. Array u64 5)), tt)))))))
+stayed = (
+  gave-ref (0 ∷ []) tt (plain (λ _. T.the-row)),
+  (
+    stay-none-slice (1 ∷ []) tt (plain (λ _. u8)) yes,
+    (
+      stay-none (λ _. u64) yes,
+      (gave-slice (2 ∷ []) tt (plain (λ _. u8)), (gave-ref (3 ∷ []) tt (plain (λ _. usize)), (gave-slice (4 ∷ []) tt (plain (λ _. u8)), (gave-ref (5 ∷ []) tt (plain (λ _. Array u64 5)), tt)))),
+    ),
+  ),
+)
 
 -- what the step says, from what the two callees say
-told : (z : Session) (r : Reply) (buffer : List ℕ) (held : ℕ) (out : List ℕ) (k : ℕ) (ys : List ℕ) (t : After) → after z r out (hold buffer held) ≡ t → filled k ys ≡ replyNumbers (r .answer) (r .released)
-    → (z ≡ t .session) × (buffer ≡ t .outcome .buffer) × (held ≡ t .outcome .held) × (out ≡ t .outcome .output) × (filled k ys ≡ replyNumbers (t .outcome .answer) (t .outcome .released))
+told : (z : Session) (r : Reply) (buffer : List ℕ) (held : ℕ) (out : List ℕ) (k : ℕ) (ys : List ℕ) (t : After) → after z r out (hold buffer held) ≡ t → (k ≡ returned (r .answer)) × (ys ≡ numbers (r .answer) (r .released))
+    → (z ≡ t .session) × (buffer ≡ t .outcome .buffer) × (held ≡ t .outcome .held) × (out ≡ t .outcome .output) × (k ≡ returned (t .outcome .answer)) × (ys ≡ numbers (t .outcome .answer) (t .outcome .released))
 told z r buffer held out k ys t e d = (
   ap (λ (s : After). s .session) e,
   ap (λ (s : After). s .outcome .buffer) e,
   ap (λ (s : After). s .outcome .held) e,
   ap (λ (s : After). s .outcome .output) e,
-  d ∙ ap (λ (s : After). replyNumbers (s .outcome .answer) (s .outcome .released)) e,
+  d .0 ∙ ap (λ (s : After). returned (s .outcome .answer)) e,
+  d .1 ∙ ap (λ (s : After). numbers (s .outcome .answer) (s .outcome .released)) e,
 )
 
 module _ {M : Type 1} (𝓤 : URA M) (H : Heap 𝓤) (A : Atoms 𝓤) (at-mem : Memory → SProp 𝓤) (run : Routine → Fun 𝓤) where
@@ -148,7 +157,7 @@ module _ {M : Type 1} (𝓤 : URA M) (H : Heap 𝓤) (A : Atoms 𝓤) (W : Given
   asked-put : (r : Reply) (w : Val) → ent 𝓤 (onEntry 𝓤 H A p.signature (κr, tt) (qr, tt) (r, (reply, tt)) (w ∷ [], (vptr br or ∷ [], tt))) (PC 𝓤 H A at-mem run .pre (to-put r w))
   asked-put r w = qed W ((‵ (flft κr qr) ⊛ ‵ ftrue) ∷ ‵ (owns (R.the-row ∷ MutRef (named 0) κr (Array u64 5) ∷ []) (r, (reply, tt)) (w ∷ [], (vptr br or ∷ [], tt))) ∷ []) ∵ join ! $ frame ! $ done !
 
-  exits : (k : ℕ) (w : Val) (r : Reply) (zs : Lasts) (ys : List ℕ) → after (zs .0) r (zs .1 .1 .1 .1 .1 .0) (hold (zs .1 .1 .1 .0) (zs .1 .1 .1 .1 .0)) ≡ stepOf h (hold (buffer .now) n) (out .now) (bytes .now) tag → filled k ys ≡ replyNumbers (r .answer) (r .released)
+  exits : (k : ℕ) (w : Val) (r : Reply) (zs : Lasts) (ys : List ℕ) → after (zs .0) r (zs .1 .1 .1 .1 .1 .0) (hold (zs .1 .1 .1 .0) (zs .1 .1 .1 .1 .0)) ≡ stepOf h (hold (buffer .now) n) (out .now) (bytes .now) tag → (k ≡ returned (r .answer)) × (ys ≡ numbers (r .answer) (r .released))
       → ent 𝓤 (⋆ 𝓤 H A (Tokens ∷ (‵ (flft κr qr) ⊛ ‵ ftrue) ∷ ‵ (lasts g.ended κs gs zs) ∷ ‵ Bytes ∷ ‵ (fres γr (Array u64 5 .coded .code ys)) ∷ ‵ (u32 .own k (w ∷ [])) ∷ [])) (Post w)
   exits k w r zs ys e d =
       qed W (Tokens ∷ (‵ (flft κr qr) ⊛ ‵ ftrue) ∷ ‵ (lasts g.ended κs gs zs) ∷ ‵ Bytes ∷ ‵ (fres γr (Array u64 5 .coded .code ys)) ∷ ‵ (u32 .own k (w ∷ [])) ∷ []) ∵
@@ -164,7 +173,7 @@ module _ {M : Type 1} (𝓤 : URA M) (H : Heap 𝓤) (A : Atoms 𝓤) (W : Given
       -- [true; the output's last value; the number's; the buffer's; the session's; bytes; the reply's last value; the result]
       move ! (6 ∷ 0 ∷ []) $ fjoin ! $ move ! (1 ∷ 0 ∷ []) $ fjoin ! $ move ! (1 ∷ 0 ∷ []) $ fjoin ! $ move ! (1 ∷ 0 ∷ []) $ fjoin ! $ owned ! u64 (Is u64) (uint-makes 𝓤 H A W w64) tag _ (refl, fits) $ fjoin ! $ move ! (2 ∷ 0 ∷ []) $ fjoin ! $ move ! (1 ∷ 0 ∷ []) $ fjoin ! $ done !))
 
-  module _ (C : Calls 𝓤 H) (Λ : Loops 𝓤 H) (fm : FmC 𝓤 H (W .laws) C) (known : Triple 𝓤 (C #keeper·give-lent) (GC 𝓤 H A at-mem run)) (known-put : Triple 𝓤 (C #capi·put-reply) (PC 𝓤 H A at-mem run)) where
+  module _ (C : Calls 𝓤 H) (Λ : Loops 𝓤 H) (fm : FmC 𝓤 H (W .laws) C) (known : Triple 𝓤 (C #keeper·give-lent) (GC 𝓤 H A at-mem run)) (known-put : Triple 𝓤 (C #capi_keeper·put-reply) (PC 𝓤 H A at-mem run)) where
     walk : Is (ShrSlice (named 1) κ′ u8) bytes (v ∷ []) → Is (MutSlice (named 2) κb u8) buffer (vb ∷ []) → Is (MutSlice (named 4) κo u8) out (vo ∷ [])
         → ent 𝓤 (onEntry 𝓤 H A f.signature (κ, (κ′, (κb, (κh, (κo, (κr, tt)))))) (q, (q′, (qb, (qh, (qo, (qr, tt)))))) x at) (WpFn 𝓤 H C Λ code.function (vptr b o ∷ v ∷ vint w64 tag ∷ vb ∷ vptr bh oh ∷ vo ∷ vptr br or ∷ []) Post)
     walk is-bytes is-buffer is-out =
@@ -201,8 +210,8 @@ module _ {M : Type 1} (𝓤 : URA M) (H : Heap 𝓤) (A : Atoms 𝓤) (W : Given
         -- [the callee's `pre`; five tokens; the last values; bytes; the locals]
         calls-at ! fm (PC 𝓤 H A at-mem run) known-put (to-put r w) (and-then ! (load ! (from ! (stop !)) (look ! 18 refl)) (and-then ! (load ! (from ! (stop !)) (look ! 4 refl)) (no-more !))) (λ u.
         use1 W (later (some (λ (k : ℕ). ((‵ (flft κr qr) ⊛ ‵ ftrue) ⊛ ‵ (u32 .own k (u ∷ []))) ⊛ raw (ensured 𝓤 H A p.ended (p.clauses 𝓤 H A at-mem run) (κr, tt) (r, (reply, tt)) tt k)))) (id⊢ 𝓤 _) $ await ! tt $ pick ! (λ k.
-        split ! $ move ! (1 ∷ []) $ use1 W (some (λ (ys : Unit {0} × (List ℕ × Unit {0})). ‵ (lasts p.ended (κr, tt) (r, (reply, tt)) ys) ⊛ raw (fact 𝓤 (filled k (ys .1 .0) ≡ replyNumbers (r .answer) (r .released))))) (id⊢ 𝓤 _) $ pick ! (λ ys.
-        split ! $ move ! (1 ∷ []) $ heard ! (filled k (ys .1 .0) ≡ replyNumbers (r .answer) (r .released)) (λ d. fsplit ! $ move ! (1 ∷ []) $ fsplit ! $ move ! (3 ∷ []) $ split ! $ move ! (1 ∷ []) $
+        split ! $ move ! (1 ∷ []) $ use1 W (some (λ (ys : Unit {0} × (List ℕ × Unit {0})). ‵ (lasts p.ended (κr, tt) (r, (reply, tt)) ys) ⊛ raw (fact 𝓤 ((k ≡ returned (r .answer)) × (ys .1 .0 ≡ numbers (r .answer) (r .released)))))) (id⊢ 𝓤 _) $ pick ! (λ ys.
+        split ! $ move ! (1 ∷ []) $ heard ! ((k ≡ returned (r .answer)) × (ys .1 .0 ≡ numbers (r .answer) (r .released))) (λ d. fsplit ! $ move ! (1 ∷ []) $ fsplit ! $ move ! (3 ∷ []) $ split ! $ move ! (1 ∷ []) $
         -- [the result; the reply's token; its last value; …; …; five tokens; the last values; bytes; the locals]
         peeks ! u32 (Is u32) (shows 𝓤 H A u32) k (u ∷ []) (λ is-k. land ! (from ! (stop !)) (init ! 38 refl (uint-lawful 𝓤 H A W w32 .typed k _ is-k .0)) $
         returns ! (look ! 38 refl) $ forget ! 8 refl $ forget ! 10 refl $ forget ! 12 refl $ forget ! 14 refl $ forget ! 16 refl $ forget ! 18 refl $ forget ! 20 refl $ forget ! 22 refl $ forget ! 24 refl $ forget ! 26 refl $ forget ! 28 refl $ forget ! 30 refl $ forget ! 32 refl $ forget ! 34 refl $ forget ! 36 refl $ forget ! 38 refl $
@@ -211,25 +220,33 @@ module _ {M : Type 1} (𝓤 : URA M) (H : Heap 𝓤) (A : Atoms 𝓤) (W : Given
         keep ! (5 ∷ 1 ∷ 6 ∷ 7 ∷ 2 ∷ 0 ∷ []) $ by ! (exits k u r zs (ys .1 .0) e d)))))))))))))))))))))))))))
 
 module _ {M : Type 1} (𝓤 : URA M) (H : Heap 𝓤) (A : Atoms 𝓤) (W : Given 𝓤 H A) (at-mem : Memory → SProp 𝓤) (run : Routine → Fun 𝓤) where
-  f-walks : (C : Calls 𝓤 H) (Λ : Loops 𝓤 H) → FmC 𝓤 H (W .laws) C → Triple 𝓤 (C #keeper·give-lent) (GC 𝓤 H A at-mem run) → Triple 𝓤 (C #capi·put-reply) (PC 𝓤 H A at-mem run) → Walks 𝓤 H A f.ended stayed (WpFn 𝓤 H C Λ code.function) (f.clauses 𝓤 H A at-mem run)
+  f-walks : (C : Calls 𝓤 H) (Λ : Loops 𝓤 H) → FmC 𝓤 H (W .laws) C → Triple 𝓤 (C #keeper·give-lent) (GC 𝓤 H A at-mem run) → Triple 𝓤 (C #capi_keeper·put-reply) (PC 𝓤 H A at-mem run) → Walks 𝓤 H A f.ended stayed (WpFn 𝓤 H C Λ code.function) (f.clauses 𝓤 H A at-mem run)
   f-walks C Λ fm known known-put = walked 𝓤 H A f.ended stayed (f.clauses 𝓤 H A at-mem run) (WpFn 𝓤 H C Λ code.function) (λ κs. (ptr-vals, (slice-vals, (uint-vals w64, (slice-vals, (ptr-vals, (slice-vals, (ptr-vals, tt))))))))
       (λ κs. (mut-tells (named 0) (κs .0) T.the-row, (shr-slice-tells (named 1) (κs .1 .0) u8, (uint-tells w64, (mut-slice-tells (named 2) (κs .1 .1 .0) u8, (mut-tells (named 3) (κs .1 .1 .1 .0) usize, (mut-slice-tells (named 4) (κs .1 .1 .1 .1 .0) u8, (mut-tells (named 5) (κs .1 .1 .1 .1 .1 .0) (Array u64 5), tt))))))))
       (λ κs qs bounds a _ are. via 𝓤 _ (fst∗ 𝓤 _ (emp 𝓤)) (walk 𝓤 H A W at-mem run (κs .0) (κs .1 .0) (κs .1 .1 .0) (κs .1 .1 .1 .0) (κs .1 .1 .1 .1 .0) (κs .1 .1 .1 .1 .1 .0) (qs .0) (qs .1 .0) (qs .1 .1 .0) (qs .1 .1 .1 .0) (qs .1 .1 .1 .1 .0) (qs .1 .1 .1 .1 .1 .0) bounds
       (a .0 .ptr .0) (a .0 .ptr .1) (a .0 .name) (a .0 .now) (a .1 .0) (a .1 .1 .0) (are .1 .1 .0 .1) (a .1 .1 .1 .0) (a .1 .1 .1 .1 .0 .ptr .0) (a .1 .1 .1 .1 .0 .ptr .1) (a .1 .1 .1 .1 .0 .name) (a .1 .1 .1 .1 .0 .now) (a .1 .1 .1 .1 .1 .0)
       (a .1 .1 .1 .1 .1 .1 .0 .ptr .0) (a .1 .1 .1 .1 .1 .1 .0 .ptr .1) (a .1 .1 .1 .1 .1 .1 .0 .name) (a .1 .1 .1 .1 .1 .1 .0 .now) C Λ fm known known-put (are .1 .0) (are .1 .1 .1 .0) (are .1 .1 .1 .1 .1 .0)))
 
-f-meets : {M : Type 1} (𝓤 : URA M) (H : Heap 𝓤) (A : Atoms 𝓤) → Given 𝓤 H A → (at-mem : Memory → SProp 𝓤) (run : Routine → Fun 𝓤) (𝓣 : Tables 𝓤 H) → Triple 𝓤 (𝓣 .C #keeper·give-lent) (GC 𝓤 H A at-mem run) → Triple 𝓤 (𝓣 .C #capi·put-reply) (PC 𝓤 H A at-mem run)
+f-meets : {M : Type 1} (𝓤 : URA M) (H : Heap 𝓤) (A : Atoms 𝓤) → Given 𝓤 H A → (at-mem : Memory → SProp 𝓤) (run : Routine → Fun 𝓤) (𝓣 : Tables 𝓤 H) → Triple 𝓤 (𝓣 .C #keeper·give-lent) (GC 𝓤 H A at-mem run) → Triple 𝓤 (𝓣 .C #capi_keeper·put-reply) (PC 𝓤 H A at-mem run)
     → Meets 𝓤 H A f.signature (WpFn 𝓤 H (𝓣 .C) (𝓣 .Λ) code.function) (f.spec 𝓤 H A at-mem run)
 f-meets 𝓤 H A W at-mem run 𝓣 known known-put =
-    walk-meets 𝓤 H A f.ended stayed W
-    (goes-gave-ref 𝓤 H A W 6 0 tt (plain (λ _. T.the-row)), (goes-none-slice 𝓤 H A W 6 (1 ∷ []) tt (plain (λ _. u8)) yes, (goes-none 𝓤 H A W 6 (λ _. u64) yes (λ κs x f. refl), (goes-gave-slice 𝓤 H A W 6 2 tt (plain (λ _. u8)), (goes-gave-ref 𝓤 H A W 6 3 tt (plain (λ _. usize)), (goes-gave-slice 𝓤 H A W 6 4 tt (plain (λ _. u8)), (goes-gave-ref 𝓤 H A W 6 5 tt (plain (λ _. Array u64 5)), tt)))))))
+    walk-meets 𝓤 H A f.ended stayed W (
+      goes-gave-ref 𝓤 H A W 6 0 tt (plain (λ _. T.the-row)),
+      (
+        goes-none-slice 𝓤 H A W 6 (1 ∷ []) tt (plain (λ _. u8)) yes,
+        (
+          goes-none 𝓤 H A W 6 (λ _. u64) yes (λ κs x f. refl),
+          (goes-gave-slice 𝓤 H A W 6 2 tt (plain (λ _. u8)), (goes-gave-ref 𝓤 H A W 6 3 tt (plain (λ _. usize)), (goes-gave-slice 𝓤 H A W 6 4 tt (plain (λ _. u8)), (goes-gave-ref 𝓤 H A W 6 5 tt (plain (λ _. Array u64 5)), tt)))),
+        ),
+      ),
+    )
     (f.clauses 𝓤 H A at-mem run) (WpFn 𝓤 H (𝓣 .C) (𝓣 .Λ) code.function) (WpFn-mono 𝓤 H (W .laws) 𝓣 code.function) (f-walks 𝓤 H A W at-mem run (𝓣 .C) (𝓣 .Λ) (fmOf 𝓤 H (W .laws) 𝓣) known known-put)
 
 pub kq-keeper-give-spec : {M : Type 1} → stated.statement M
 unfolding code.routine tablesOf
 kq-keeper-give-spec 𝓤 H 𝓜 𝓖 𝓡 =
     entered 𝓤 H (tripleOf 𝓤 H (𝓖 .A) f.signature (f.spec 𝓤 H (𝓖 .A) (𝓜 .mem) (𝓡 .run)))
-    (tables 𝓤 H 𝓜 𝓡 code.env .C) (tables 𝓤 H 𝓜 𝓡 code.env .Λ) #capi·kq-keeper-give code.function (code.unfolded 𝓤 H 𝓜 𝓡)
+    (tables 𝓤 H 𝓜 𝓡 code.env .C) (tables 𝓤 H 𝓜 𝓡 code.env .Λ) #capi_keeper·kq-keeper-give code.function (code.unfolded 𝓤 H 𝓜 𝓡)
     (f-meets 𝓤 H (𝓖 .A) (givenOf 𝓤 H 𝓜 𝓖) (𝓜 .mem) (𝓡 .run) (tablesOf 𝓤 H 𝓜 (tables 𝓤 H 𝓜 𝓡 code.env))
     (cited 𝓤 H (GC 𝓤 H (𝓖 .A) (𝓜 .mem) (𝓡 .run)) 𝓜 𝓡 code.env #keeper·give-lent g-def.routine code.calls-keeper·give-lent (g-thm.met 𝓤 H 𝓜 𝓖 𝓡))
-    (cited 𝓤 H (PC 𝓤 H (𝓖 .A) (𝓜 .mem) (𝓡 .run)) 𝓜 𝓡 code.env #capi·put-reply p-def.routine code.calls-capi·keepers·put-reply (p-thm.met 𝓤 H 𝓜 𝓖 𝓡)))
+    (cited 𝓤 H (PC 𝓤 H (𝓖 .A) (𝓜 .mem) (𝓡 .run)) 𝓜 𝓡 code.env #capi_keeper·put-reply p-def.routine code.calls-capi-keeper·put-reply (p-thm.met 𝓤 H 𝓜 𝓖 𝓡)))
