@@ -1,6 +1,7 @@
 //! Two imports that stream in turns, made of a feed's changes.
 use crate::feed::Made;
 use crate::messages::{stream_abort, stream_commit, stream_start, stream_stop};
+use crate::spread::with_places;
 
 /// How many changes a block has, and an import.
 const BLOCK: usize = 50;
@@ -9,27 +10,30 @@ const IMPORT: usize = 300;
 /// Of an import's blocks this one is a sub-transaction's.
 const SUB_BLOCK: usize = 3;
 
+/// A change: its letter, and what stands behind its xid's place.
+type Change<'a> = (u8, &'a [u8]);
+
 /// The announcements of a feed that `spread` made, and its changes.
 pub struct Parts<'a> {
-    version: u32,
     announcements: &'a [Vec<u8>],
-    changes: Vec<&'a [u8]>,
+    changes: Vec<Change<'a>>,
 }
 
 impl<'a> Parts<'a> {
     pub fn of(spread: &'a Made) -> Parts<'a> {
         let commit = spread.messages.iter().position(|message| message[0] == b'C').expect("the announcements' transaction");
         let (announcements, rest) = spread.messages.split_at(commit + 1);
-        let changes = rest.iter().map(|message| &message[..]).filter(|message| is_change(message)).collect();
-        Parts { version: spread.version, announcements, changes }
+        let changes = with_places(rest.iter().map(|message| &message[..])).filter(|(message, _)| is_change(message));
+        let changes = changes.map(|(message, in_block)| (message[0], &message[if in_block { 5 } else { 1 }..]));
+        Parts { announcements, changes: changes.collect() }
     }
 
     fn made(&self, name: String, streamed: Vec<Vec<u8>>) -> Made {
-        Made { name, version: self.version, messages: [self.announcements, &streamed].concat() }
+        Made { name, version: 2, messages: [self.announcements, &streamed].concat() }
     }
 
     /// The first changes, or all of them more than once.
-    fn first(&self, count: usize) -> Vec<&'a [u8]> {
+    fn first(&self, count: usize) -> Vec<Change<'a>> {
         self.changes.iter().copied().cycle().take(count).collect()
     }
 }
@@ -46,27 +50,27 @@ fn xids(import: usize) -> Xids {
     [top, top + 1].map(u32::to_be_bytes)
 }
 
-/// A block of changes that came outside one.
-fn block([top, sub]: Xids, number: usize, changes: &[&[u8]]) -> Vec<Vec<u8>> {
+fn block([top, sub]: Xids, number: usize, changes: &[Change]) -> Vec<Vec<u8>> {
     let xid = if number == SUB_BLOCK { sub } else { top };
-    let inside = changes.iter().map(|change| [&change[..1], &xid, &change[1..]].concat());
+    let inside = changes.iter().map(|(letter, behind)| [&[*letter], &xid[..], behind].concat());
     [stream_start(&top, number == 0)].into_iter().chain(inside).chain([stream_stop()]).collect()
 }
 
 /// The blocks of two imports, in turns.
-fn turns(two: [Xids; 2], changes: &[&[u8]]) -> Vec<Vec<u8>> {
+fn turns(two: [Xids; 2], changes: &[Change]) -> Vec<Vec<u8>> {
     changes.chunks(BLOCK).enumerate().flat_map(|(i, changes)| block(two[i % 2], i / 2, changes)).collect()
 }
 
 /// Two imports after two: of the first the sub-transaction is rolled back, then the second is as a whole, and the first commits.
 pub fn imports(parts: &Parts) -> Made {
-    let pair = |(i, changes): (usize, &[&[u8]])| {
+    let pair = |(i, changes): (usize, &[Change])| {
         let [first, second] = [xids(2 * i), xids(2 * i + 1)];
         let [top, sub] = first;
         let ends = [stream_abort(&top, &sub), stream_abort(&second[0], &second[0]), stream_commit(&top)];
         turns([first, second], changes).into_iter().chain(ends)
     };
-    parts.made("imports".into(), parts.changes.chunks_exact(2 * IMPORT).enumerate().flat_map(pair).collect())
+    let changes = parts.first(parts.changes.len().max(2 * IMPORT));
+    parts.made("imports".into(), changes.chunks_exact(2 * IMPORT).enumerate().flat_map(pair).collect())
 }
 
 /// Two imports of so many changes each that do not end.

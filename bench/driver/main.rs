@@ -68,7 +68,7 @@ fn check_keepers<'a>(contenders: &mut Contenders<'a>, feeds: &Feeds<'a>) {
         assert_eq!(agree(feed, feed.records())[0], 0);
     }
     assert!(agree(&feeds.imports, feeds.imports.records())[1] > 0);
-    assert!(agree(&feeds.imports, 30_000)[0] > 0);
+    assert!(agree(&feeds.imports, 5_000)[0] > 0);
     println!("all agree on every reply, and on all that is released");
 }
 

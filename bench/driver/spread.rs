@@ -14,7 +14,7 @@ pub fn spread(version: u32, messages: &[&[u8]], tables: usize) -> Made {
         spread.push(relation(&[], oid, behind));
     }
     spread.push(commit());
-    for (i, (message, in_block)) in with_places(messages).enumerate() {
+    for (i, (message, in_block)) in with_places(messages.iter().copied()).enumerate() {
         let at = if in_block { 5 } else { 1 };
         let mut message = message.to_vec();
         match message.first() {
@@ -36,23 +36,23 @@ pub fn spread(version: u32, messages: &[&[u8]], tables: usize) -> Made {
 }
 
 /// Each message, and whether it stands in a block.
-fn with_places<'a>(messages: &'a [&'a [u8]]) -> impl Iterator<Item = (&'a [u8], bool)> {
+pub fn with_places<'a>(messages: impl Iterator<Item = &'a [u8]>) -> impl Iterator<Item = (&'a [u8], bool)> {
     let mut in_block = false;
-    messages.iter().map(move |message| {
+    messages.map(move |message| {
         let before = in_block;
         match message.first() {
             Some(b'S') => in_block = true,
             Some(b'E') => in_block = false,
             _ => {}
         }
-        (*message, before)
+        (message, before)
     })
 }
 
 /// The first announcement of each relation: its OID, and the bytes behind that.
 fn relations<'a>(version: u32, messages: &'a [&'a [u8]]) -> Vec<(u32, &'a [u8])> {
     let mut relations: Vec<(u32, &[u8])> = vec![];
-    for (bytes, in_block) in with_places(messages) {
+    for (bytes, in_block) in with_places(messages.iter().copied()) {
         if let Ok(baseline::Message::Relation { relation, .. }) = baseline::read_message(version, in_block, bytes) {
             let behind = if in_block { 9 } else { 5 };
             if relations.iter().all(|(known, _)| *known != relation) {

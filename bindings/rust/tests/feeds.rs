@@ -1,6 +1,6 @@
-//! The recorded feeds of `crates/feeds`, each given to a fresh session: the answers are those that its program prints. The streamed ones
-//! are given to a keeper too.
-use kitsoriqu::{read, write, Decoded, Keeper, Message, Record, Session};
+//! The recorded feeds of `crates/feeds`, each given to a fresh session and to one with a keeper: the answers are those that its program
+//! prints. What is released of the streamed ones follows from the list of messages.
+use kitsoriqu::{read, write, Decoded, Keeper, Message, Record, Refusal, Reply, Session};
 use std::fmt::Write;
 use std::fs;
 use std::path::Path;
@@ -10,17 +10,47 @@ mod trace;
 
 const FEEDS: &str = concat!(env!("CARGO_MANIFEST_DIR"), "/../../crates/feeds");
 
-/// Gives each message to a session, tagged with its index, and prints each refusal and how many were accepted.
+/// A session alone, and one with a keeper.
+struct Both {
+    alone: Session,
+    session: Session,
+    keeper: Keeper,
+    out: Vec<u8>,
+}
+
+impl Both {
+    /// With room for all.
+    fn start(version: u32, messages: &[&[u8]]) -> Both {
+        let room = messages.iter().map(|message| 14 + message.len()).sum();
+        let session = Session::new(version);
+        Both { alone: session.clone(), session, keeper: Keeper::with_room(room), out: vec![0; room] }
+    }
+
+    /// Gives both a message, which they answer alike.
+    fn give(&mut self, bytes: &[u8], tag: u64) -> Result<Reply<'_>, Refusal> {
+        let reply = self.keeper.give(&mut self.session, bytes, tag, &mut self.out);
+        assert_eq!(reply.clone().map(|reply| reply.answer), self.alone.give(bytes, tag));
+        reply
+    }
+}
+
+/// Gives each message, tagged with its index, and prints each refusal, what each Stream Commit releases and how many were accepted.
 fn answers(version: u32, messages: &[&[u8]]) -> String {
-    let mut session = Session::new(version);
+    let mut both = Both::start(version, messages);
     let mut lines = String::new();
     let mut accepted = 0;
     for (index, bytes) in messages.iter().enumerate() {
-        match session.give(bytes, index as u64) {
-            Ok(_) => accepted += 1,
+        match both.give(bytes, index as u64) {
+            Ok(Reply { released, .. }) => {
+                accepted += 1;
+                if bytes[0] == b'c' {
+                    writeln!(lines, "{index}: released {} bytes in {} records", released.as_bytes().len(), released.count()).unwrap();
+                }
+            }
             Err(refusal) => writeln!(lines, "{index}: {} at {}", refusal.number, refusal.offset).unwrap(),
         }
     }
+    assert_eq!(both.keeper.held(), 0);
     writeln!(lines, "{} messages, {accepted} accepted", messages.len()).unwrap();
     lines
 }
@@ -98,34 +128,28 @@ fn held_after<'a>(count: usize, messages: &[&'a [u8]], changes: &[(usize, Record
     changes.iter().filter(is_held).map(|(_, record)| *record).collect()
 }
 
-/// Gives each message to a session with a keeper and to one alone, which answer alike. How many records were released, and how many dropped.
+/// How many records are released and how many dropped, of a feed that is accepted as a whole.
 fn released_and_dropped(version: u32, messages: &[&[u8]]) -> [usize; 2] {
     let changes = streamed_changes(messages);
-    let room = changes.iter().map(|(_, record)| 14 + record.message.len()).sum();
-    let (mut session, mut alone) = (Session::new(version), Session::new(version));
-    let (mut keeper, mut out) = (Keeper::with_room(room), vec![0; room]);
+    let mut both = Both::start(version, messages);
     let mut counts = [0; 2];
     for (index, bytes) in messages.iter().enumerate() {
-        let reply = keeper.give(&mut session, bytes, index as u64, &mut out).unwrap();
-        assert_eq!(Ok(reply.answer), alone.give(bytes, index as u64));
-        let released: Vec<_> = reply.released.collect();
+        let released: Vec<_> = both.give(bytes, index as u64).unwrap().released.collect();
         if let b'c' | b'A' = bytes[0] {
             let mut ended = held_after(index, messages, &changes);
             ended.retain(|record| ends(bytes, record));
             assert_eq!(released, if bytes[0] == b'c' { ended.clone() } else { vec![] });
-            assert!(keeper.held_records().eq(held_after(index + 1, messages, &changes)));
+            assert!(both.keeper.held_records().eq(held_after(index + 1, messages, &changes)));
             counts[usize::from(bytes[0] == b'A')] += ended.len();
         } else {
             assert_eq!(released, []);
         }
     }
-    assert!(keeper.held_records().eq(held_after(messages.len(), messages, &changes)));
     counts
 }
 
 #[test]
 fn streamed_feeds_with_a_keeper() {
-    // how many records are released and dropped
     let feeds = [
         ("stream_abort.v2peek.trace", [1200, 0]),
         ("stream_marker.v2.trace", [900, 0]),
