@@ -121,12 +121,7 @@ module _ (s : Session) (b : Hold) (out xs : List ℕ) (e : Event) (g : ℕ) (d :
 
   by-said : (v : Bool) → accepts said ≡ v → settled-by d said v ≡ eventAfter s b out e xs g
   unfolding settled-by
-  by-said v w =
-      ap (λ (y : Doing). settled-by y said v) ed
-      ∙ ap (λ (x : Bool). cond x
-      (after (storedOf s e g) (reply said (length (releasedFrom (doing e) b))) (laid (releasedFrom (doing e) b) out) (holdAfter (doing e) p xs b))
-      (after s (reply said 0) out b)) (sym w)
-      ∙ settled-is
+  by-said v w = ap (λ (y : Doing). settled-by y said v) ed ∙ ap (settled-by (doing e) said) (sym w) ∙ settled-is
 
   pub left-alone : accepts said ≡ false → (r : Reply) → r ≡ reply said 0 → after s r out b ≡ eventAfter s b out e xs g
   unfolding settled-by
