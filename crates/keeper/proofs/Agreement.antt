@@ -78,7 +78,7 @@ records-join [] k = append-nil (recordOf k)
 records-join (j ∷ ks) k = ap (λ (t : List ℕ). recordOf j ++ t) (records-join ks k) ∙ sym (append-assoc (recordOf j) (recordsOf ks) (recordOf k))
 
 -- a message that both accept
-both-accept : (a k : Answer) → accepts (cond (accepts a) k a) ≡ true → (accepts a ≡ true) × (accepts k ≡ true)
+pub both-accept : (a k : Answer) → accepts (cond (accepts a) k a) ≡ true → (accepts a ≡ true) × (accepts k ≡ true)
 both-accept answer.Accepted k ok = (refl, ok)
 both-accept (answer.Change g i c) k ok = (refl, ok)
 both-accept (answer.Refused n o) k ok = absurd (false≢true ok)

@@ -6,3 +6,6 @@ pub mod Runs
 pub mod ListTheorem
 pub mod Refusals
 pub mod Example
+pub mod Alike
+pub mod Rooms
+pub mod TurnsTheorem

@@ -10,6 +10,10 @@ pub mod Runs
 pub mod Refusals
 pub mod ListTheorem
 pub mod Markers
+pub mod Alike
+pub mod Stays
+pub mod Turns
+pub mod TurnsTheorem
 pub mod FirstFitLaws
 pub mod Named
 pub mod FirstFit

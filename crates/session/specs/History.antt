@@ -13,6 +13,9 @@ use Rattle.session.specs.Events.{Event, Begin, Commit, Origin, Relation,
 pub data Given : Type 0 where
   given : (bytes : List ℕ) (tag : ℕ) → Given
 
+abbrev pub bytesOf : Given → List ℕ
+bytesOf (given xs g) = xs
+
 abbrev pub tagOf : Given → ℕ
 tagOf (given xs g) = g
 

@@ -8,3 +8,4 @@ pub mod Layouts
 pub mod FirstFit
 pub mod Acts
 pub mod Listed
+pub mod Turns
