@@ -267,6 +267,10 @@ xids-free (r ∷ l) = go (eqb (r .xid) 0) (xids-free l)
     go true k = rw k
     go false k = rw k
 
+pub few-open : (s : Streams) → openCountIn s ≤ 16
+unfolding openCountIn
+few-open s = omega arith
+
 pub count-by-counts : (s : Streams) → Sound s → (l : List ℕ) → ((t : ℕ) → tally (is t) l ≡ bit (isOpenIn s t)) → length l ≡ openCountIn s
 unfolding openCountIn isOpenIn
 count-by-counts s a l counts =

@@ -60,6 +60,10 @@ module _ (t : Table) where
   pub has-lookup : (h o : ℕ) (b : Bool) → Small o → b ≡ hasIn (keyOf h o) (rowsIn t) → b ≡ isFound (lookup t h o)
   has-lookup h o b z e = e ∙ sym (found-has h o z)
 
+  pub few-used : Sound t → usedIn t ≤ 256
+  unfolding usedIn
+  few-used a = a .rows .most
+
   pub full-used : (b : Bool) → b ≡ isFull 256 (rowsIn t) → b ≡ leb 256 (usedIn t)
   unfolding usedIn
   full-used b e = e

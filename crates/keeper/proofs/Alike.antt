@@ -11,11 +11,11 @@ use Rattle.wire.specs.Lists.{keep}
 use Rattle.session.specs.declared.Place.{Place}
 use Rattle.session.specs.declared.Place.the-variants.{Idle, Transaction, Block}
 use Rattle.session.specs.Events.{Event}
-use Rattle.session.specs.History.{Given, given, entry, History, place}
+use Rattle.session.specs.History.{given, Entry, entry, History, place}
 use Rattle.session.specs.Rules.{accepts}
 use Rattle.session.proofs.Tests.{and-parts}
 use Rattle.session.proofs.Alike as session
-use Rattle.session.proofs.Stays.{Inner, origin, relation, change, truncate, neutral, logical, stop, Turn, starts, goes, Both, over, more}
+use Rattle.session.proofs.Stays.{Inner, origin, relation, change, truncate, neutral, logical, stop, Turn, starts, goes, onto, Along, Blocks, second-before, first-behind, either-alike}
 use Rattle.keeper.specs.Rules.{Kept, kept, isOf, isUnder, without, Doing, nothing, keeps, frees, drops, doing, joined, isDropped, keptAfter, keptIn, releasedBy, size, sizes, ruled, spaceOf, judgeKept}
 
 -- LISTS
@@ -146,7 +146,7 @@ module _ {h k : History} (a : Alike h k) (e : Event) (xs : List ℕ) where
 -- IN A BLOCK OF x
 
 -- all of them are of x
-abbrev AllOf : ℕ → List Kept → Type 0
+abbrev pub AllOf : ℕ → List Kept → Type 0
 AllOf x [] = Unit {0}
 AllOf x (k ∷ ks) = (isOf x k ≡ true) × AllOf x ks
 
@@ -159,13 +159,13 @@ none-of x t n [] a = refl
 none-of x t n (kept top own xs ∷ ks) a = rw (eqb-true top x (a .0), n) (none-of x t n ks (a .1))
 
 -- nothing is released and nothing dropped
-abbrev Quiet : Doing → Type 0
+abbrev pub Quiet : Doing → Type 0
 Quiet nothing = Unit {0}
 Quiet (keeps own) = Unit {0}
 Quiet (frees x) = ⊥
 Quiet (drops x sub) = ⊥
 
-inner-quiet : {e : Event} → Inner e → Quiet (doing e)
+pub inner-quiet : {e : Event} → Inner e → Quiet (doing e)
 inner-quiet origin = tt
 inner-quiet relation = tt
 inner-quiet change = tt
@@ -191,29 +191,23 @@ module _ (x : ℕ) (h : History) where
   turn-releases (starts p) ks = refl
   turn-releases (goes {e} p i) ks = releases-nothing (doing e) (inner-quiet i) ks
 
-  turn-adds : {e : Event} → Turn x h e → (xs : List ℕ) (ks : List Kept)
+  pub turn-adds : {e : Event} → Turn x h e → (xs : List ℕ) (ks : List Kept)
       → (keptAfter (doing e) (place h) xs ks ≡ ks ++ keptAfter (doing e) (Block x) xs []) × AllOf x (keptAfter (doing e) (Block x) xs [])
   turn-adds (starts p) xs ks = (sym (append-nil ks), tt)
   turn-adds (goes {e} p i) xs ks = rw p (adds x (doing e) xs (inner-quiet i) ks)
 
--- a block of x adds the same to both, all of x
-record Adds (x : ℕ) (h' k' h k : History) : Type 0 where
-  added : List Kept
-  left : keptIn h' ≡ keptIn h ++ added
-  right : keptIn k' ≡ keptIn k ++ added
-  ofx : AllOf x added
+-- what a block of x adds, whatever was kept: all of it of x
+abbrev addedBy : ℕ → List Entry → List Kept
+addedBy x [] = []
+addedBy x (entry e (given xs g) ∷ es) = keptAfter (doing e) (Block x) xs [] ++ addedBy x es
 
-both-adds : {x : ℕ} {h' k' h k : History} → Both x h' k' h k → Adds x h' k' h k
-both-adds {h'} {k'} over = record { added = []; left = sym (append-nil (keptIn h')); right = sym (append-nil (keptIn k')); ofx = tt }
-both-adds {x} {h = h} {k = k} (more e (given xs g) p t u b) =
-    let r = both-adds b in
+along-adds : (x : ℕ) (es : List Entry) (h : History) → Along x es h → (keptIn (onto es h) ≡ keptIn h ++ addedBy x es) × AllOf x (addedBy x es)
+along-adds x [] h a = (sym (append-nil (keptIn h)), tt)
+along-adds x (entry e (given xs g) ∷ es) h a =
     let n = keptAfter (doing e) (Block x) xs [] in
-    record {
-      added = n ++ r .added;
-      left = r .left ∙ ap (λ (l : List Kept). l ++ r .added) (turn-adds x h t xs (keptIn h) .0) ∙ append-assoc (keptIn h) n (r .added);
-      right = r .right ∙ ap (λ (l : List Kept). l ++ r .added) (turn-adds x k u xs (keptIn k) .0) ∙ append-assoc (keptIn k) n (r .added);
-      ofx = all-append x n (r .added) (turn-adds x h t xs (keptIn h) .1) (r .ofx);
-    }
+    let t = turn-adds x h (a .0) xs (keptIn h) in
+    let r = along-adds x es (entry e (given xs g) ∷ h) (a .1) in
+    (r .0 ∙ ap (λ (l : List Kept). l ++ addedBy x es) (t .0) ∙ append-assoc (keptIn h) n (addedBy x es), all-append x n (addedBy x es) (t .1) (r .1))
 
 -- what two transactions kept, in either order
 module _ (x y : ℕ) (d : x ≡ y → ⊥) (ks f s : List Kept) (a : AllOf x f) (b : AllOf y s) where
@@ -229,12 +223,21 @@ module _ (x y : ℕ) (d : x ≡ y → ⊥) (ks f s : List Kept) (a : AllOf x f) 
   swapped-sizes : sizes ((ks ++ f) ++ s) ≡ sizes ((ks ++ s) ++ f)
   swapped-sizes = omega (arith, sizes-append (ks ++ f) s, sizes-append ks f, sizes-append (ks ++ s) f, sizes-append ks s)
 
-pub alike-swapped : (x y : ℕ) → (x ≡ y → ⊥) → (h a b ab ba : History) → Both x a ba h b → Both y ab b a h → session.Alike ab ba → Alike ab ba
-alike-swapped x y d h a b ab ba first second told =
-    let F = both-adds first in
-    let S = both-adds second in
-    record {
-      told = told;
-      kept = λ t. rw (S .left, F .left, F .right, S .right) (swapped-kept x y d (keptIn h) (F .added) (S .added) (F .ofx) (S .ofx) t);
-      held = rw (S .left, F .left, F .right, S .right) (swapped-sizes x y d (keptIn h) (F .added) (S .added) (F .ofx) (S .ofx));
-    }
+pub alike-blocks : (x y : ℕ) (h : History) (f s : List Entry) → Blocks x y h f s → Alike (onto s (onto f h)) (onto f (onto s h))
+alike-blocks x y h f s b = record {
+  told = either-alike b;
+  kept = λ t. rw (left, right) (swapped-kept x y (b .differ) (keptIn h) (addedBy x f) (addedBy y s) (F .1) (S .1) t);
+  held = rw (left, right) (swapped-sizes x y (b .differ) (keptIn h) (addedBy x f) (addedBy y s) (F .1) (S .1));
+}
+  where
+    F : (keptIn (onto f h) ≡ keptIn h ++ addedBy x f) × AllOf x (addedBy x f)
+    F = along-adds x f h (b .first)
+
+    S : (keptIn (onto s h) ≡ keptIn h ++ addedBy y s) × AllOf y (addedBy y s)
+    S = along-adds y s h (second-before b)
+
+    left : keptIn (onto s (onto f h)) ≡ (keptIn h ++ addedBy x f) ++ addedBy y s
+    left = along-adds y s (onto f h) (b .second) .0 ∙ ap (λ (l : List Kept). l ++ addedBy y s) (F .0)
+
+    right : keptIn (onto f (onto s h)) ≡ (keptIn h ++ addedBy y s) ++ addedBy x f
+    right = along-adds x f (onto s h) (first-behind b) .0 ∙ ap (λ (l : List Kept). l ++ addedBy x f) (S .0)

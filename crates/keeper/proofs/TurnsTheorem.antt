@@ -8,7 +8,7 @@ use lib.ListN.{length}
 use Rattle.message.specs.declared.Version.{Version}
 use Rattle.session.specs.declared.Answer.{Answer}
 use Rattle.session.specs.Events.{Event}
-use Rattle.session.specs.History.{given, entry, History, place}
+use Rattle.session.specs.History.{Given, given, entry, History, place}
 use Rattle.session.specs.Rules.{rooms, judge, accepts, Heard, unread, heard, hears, versionOf}
 use Rattle.session.specs.Machine.{startOf}
 use Rattle.session.proofs.Stays.{Turn}
@@ -18,8 +18,8 @@ use Rattle.keeper.specs.Records.{hold}
 use Rattle.keeper.specs.Runs.{run}
 use Rattle.keeper.specs.Turns.{givenOf, Got, gotten, gets, allAccepted, Turns}
 use Rattle.keeper.proofs.ListTheorem.{keeper-outcomes}
-use Rattle.keeper.proofs.Alike.{Alike, alike-after, alike-released, alike-judged, turn-releases, alike-swapped}
-use Rattle.keeper.proofs.Rooms.{session-accepts, accepted-is, still-fits, laid-length}
+use Rattle.keeper.proofs.Alike.{Alike, alike-after, alike-released, alike-judged, turn-releases, alike-blocks}
+use Rattle.keeper.proofs.Rooms.{session-accepts, accepted-is, fitted-after, fitted-before, fitting-taken, still-fits, laid-length}
 
 -- THE KEEPER'S WAY OF JUDGING, with a buffer of `room` bytes
 
@@ -59,6 +59,19 @@ module _ (room : ℕ) where
   like-after : (h k : History) → Alike h k → (e : Event) (c : Call) → Alike (entry e (givenOf c) ∷ h) (entry e (givenOf c) ∷ k)
   like-after h k a e (call (given xs g) out) = alike-after a e xs g
 
+  -- what is kept fits the buffer
+  abbrev Fits : History → Type 0
+  Fits h = sizes (keptIn h) ≤ room
+
+  takes : (x : ℕ) (h : History) (e : Event) (c : Call) → Turn x h e → accepts (judge rooms h e) ≡ true → Fits (entry e (givenOf c) ∷ h) → taken (getsAt h (heard e) c) ≡ true
+  takes x h e (call (given xs g) out) t ok f = fitting-taken room (length out) x h e xs g t ok f
+
+  fits-after : (h : History) (e : Event) (c : Call) → taken (getsAt h (heard e) c) ≡ true → Fits h → Fits (entry e (givenOf c) ∷ h)
+  fits-after h e (call (given xs g) out) ok f = fitted-after room (length out) h e xs g ok f
+
+  fits-before : (x : ℕ) (h : History) (e : Event) (g : Given) → Turn x h e → Fits (entry e g ∷ h) → Fits h
+  fits-before x h e (given xs g) t f = fitted-before room x h e xs g t f
+
   abbrev keeping : Way
   keeping = record {
     Item = Call;
@@ -67,13 +80,19 @@ module _ (room : ℕ) where
     gets = getsAt;
     taken = taken;
     Like = Alike;
+    Fits = Fits;
     unread-not = unread-not;
     accepted = accepted;
+    takes = takes;
     same = same;
     like-place = λ h k a. a .told .at;
     like-gets = like-gets;
     like-after = like-after;
-    like-swapped = alike-swapped;
+    like-blocks = alike-blocks;
+    fits-none = omega arith;
+    fits-after = fits-after;
+    fits-before = fits-before;
+    fits-like = λ h k a f. omega (arith, a .held, f);
   }
 
   same-next : (h : History) (m : Heard) (xs : List ℕ) (g : ℕ) (out : List ℕ) → next keeping h m (call (given xs g) out) ≡ historyAfter room (length out) h m xs g
@@ -100,9 +119,9 @@ same-all v room (call (given xs g) out ∷ l) buffer h e f =
 
 pub turns : Turns
 unfolding gets
-turns start buffer buffer' e x y d before one two after b c p q =
+turns start buffer buffer' e x y d before one two after b c p =
     let r = either-order (keeping room) (versionOf start) (from buffer) (from buffer') (is buffer refl) (is buffer' (sym e)) x y d before one two after b c
-        (same-taken room (gets start buffer before (one ++ two)) ∙ p) (same-taken room (gets start buffer' before (two ++ one)) ∙ q) in
+        (same-taken room (gets start buffer before (one ++ two)) ∙ p) in
     record { earlier = r .0; first = r .1; second = r .2; later = r .3 }
   where
     room : ℕ

@@ -35,8 +35,8 @@ allAccepted [] = true
 allAccepted (g ∷ l) = accepts (g .answer) && allAccepted l
 
 -- THE STATEMENT. However the session starts, with two buffers of one length, whatever is in them, and whatever messages go before, any bytes with any
--- tags and any outputs: where `one` is a block of x and `two` a block of y, x and y differ, and every message of both is accepted in either order, each
--- message before them, of both and after them gets the same in either order. Tag and output travel with their message.
+-- tags and any outputs: where `one` is a block of x and `two` a block of y, x and y differ, and every message of both is accepted in this order, each
+-- message before them, of both and after them gets the same in either order. So all are accepted in the other order too. Tag and output travel with their message.
 pub record EitherOrder (start : Start) (buffer buffer' : List ℕ) (before one two after : List Call) : Type 0 where
   pub earlier : gets start buffer [] before ≡ gets start buffer' [] before
   pub first : gets start buffer before one ≡ gets start buffer' (before ++ two) one
@@ -47,5 +47,4 @@ abbrev pub Turns : Type 0
 Turns =
     (start : Start) (buffer buffer' : List ℕ) → length buffer ≡ length buffer' → (x y : ℕ) → (x ≡ y → ⊥) → (before one two after : List Call)
     → BlockOf (versionOf start) x (map givenOf one) → BlockOf (versionOf start) y (map givenOf two)
-    → allAccepted (gets start buffer before (one ++ two)) ≡ true → allAccepted (gets start buffer' before (two ++ one)) ≡ true
-    → EitherOrder start buffer buffer' before one two after
+    → allAccepted (gets start buffer before (one ++ two)) ≡ true → EitherOrder start buffer buffer' before one two after

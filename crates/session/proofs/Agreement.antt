@@ -71,7 +71,7 @@ busy p rest e = not-true (isIdle p) (passed (not (isIdle p)) 7 rest e .0)
 end-accepted : (p : Place) (o : Bool) → accepts (ruleStreamEnd p o) ≡ true → (isIdle p ≡ true) × (o ≡ true)
 end-accepted p o e = let k = passed (isIdle p) 7 (test o 8 answer.Accepted) e in (k .0, passed o 8 answer.Accepted (k .1) .0)
 
-start-accepted : (p : Place) (first o full : Bool) → accepts (ruleStreamStart p first o full) ≡ true → (o ≡ not first) × (first ≡ true → full ≡ false)
+pub start-accepted : (p : Place) (first o full : Bool) → accepts (ruleStreamStart p first o full) ≡ true → (o ≡ not first) × (first ≡ true → full ≡ false)
 start-accepted p first o full e = go first o full (passed (isIdle p) 7 (test (cond first (not o) o) 8 (test (not (first && full)) 12 answer.Accepted)) e .1)
   where
     go : (first o full : Bool) → accepts (test (cond first (not o) o) 8 (test (not (first && full)) 12 answer.Accepted)) ≡ true → (o ≡ not first) × (first ≡ true → full ≡ false)
@@ -81,7 +81,7 @@ start-accepted p first o full e = go first o full (passed (isIdle p) 7 (test (co
     go false true full e = (refl, λ k. absurd (false≢true k))
     go false false full e = absurd (false≢true e)
 
-relation-accepted : (p : Place) (live full : Bool) → accepts (ruleRelation p live full) ≡ true → live ≡ false → full ≡ false
+pub relation-accepted : (p : Place) (live full : Bool) → accepts (ruleRelation p live full) ≡ true → live ≡ false → full ≡ false
 relation-accepted p live full e k =
     let m = passed (live || not full) 11 answer.Accepted (passed (not (isIdle p)) 7 (test (live || not full) 11 answer.Accepted) e .1) .0 in
     not-true full (rw k at m)
@@ -98,8 +98,19 @@ idle-inside h Idle e = tt
 idle-inside h (Transaction l) e = absurd (false≢true e)
 idle-inside h (Block x) e = absurd (false≢true e)
 
+-- no block is of xid 0
+abbrev pub Proper : Place → Type 0
+Proper Idle = Unit {0}
+Proper (Transaction l) = Unit {0}
+Proper (Block x) = NonZero x
+
+inside-proper : (h : History) (p : Place) → Inside h p → Proper p
+inside-proper h Idle w = tt
+inside-proper h (Transaction l) w = tt
+inside-proper h (Block x) w = w .0
+
 -- what history holds after an announcement at a place
-held-relation : (h : History) (n i c : ℕ) (g : Given) (p : Place) → place h ≡ p → isIdle p ≡ false → Inside h p → (t o : ℕ)
+pub held-relation : (h : History) (n i c : ℕ) (g : Given) (p : Place) → place h ≡ p → isIdle p ≡ false → Proper p → (t o : ℕ)
     → held (entry (Relation n i c) g ∷ h) t o ≡ cond (eqb (holderAt p) t && eqb n o) (shown g i c) (held h t o)
 held-relation h n i c g Idle e b w t o = absurd (true≢false b)
 held-relation h n i c g (Transaction l) e b w t o = go (eqb t 0) refl
@@ -110,7 +121,7 @@ held-relation h n i c g (Transaction l) e b w t o = go (eqb t 0) refl
 held-relation h n i c g (Block x) e b w t o = go (eqb t 0) refl
   where
     go : (v : Bool) → eqb t 0 ≡ v → held (entry (Relation n i c) g ∷ h) t o ≡ cond (eqb x t && eqb n o) (shown g i c) (held h t o)
-    go true k = rw (e, eqb-true t 0 k, ne-eqb x 0 (w .0))
+    go true k = rw (e, eqb-true t 0 k, ne-eqb x 0 (w))
     go false k = rw (e, k)
 
 -- and after a commit
@@ -186,7 +197,7 @@ module _ (L : Layout) (laws : Lawful L) (s : StateOf (L .Rows)) (h : History) (a
     plain = a .plain;
     streams = Streams.unchanged (s .streams) h (entry (Relation n i c) g ∷ h) (a .streams) (λ t. refl) (λ t z. refl);
     table = rw (a .at) (Rows.putting L laws (s .table) h (entry (Relation n i c) g ∷ h) (a .table) (holderAt (place h)) n (tagOf g) i c f
-        (held-relation h n i c g (place h) refl (busy (place h) _ ok) (a .inside))
+        (held-relation h n i c g (place h) refl (busy (place h) _ ok) (inside-proper h (place h) (a .inside)))
         (λ none. ap (leb 256) (sym (Live.live-used L laws (s .table) h (a .table)))
         ∙ relation-accepted (place h) (isAnnounced (held h (holderAt (place h)) n)) (leb 256 (liveCount h)) ok (ap isAnnounced (sym (a .table .same (holderAt (place h)) n)) ∙ none)));
   }

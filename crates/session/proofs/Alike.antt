@@ -56,34 +56,41 @@ alike-after a e g = record {
 
 -- THE COUNTS follow from the tests, of any two histories
 
-same-opens : (h k : History) → ((t : ℕ) → isOpen h t ≡ isOpen k t) → openCount h ≡ openCount k
+pub same-opens : (h k : History) → ((t : ℕ) → isOpen h t ≡ isOpen k t) → openCount h ≡ openCount k
 same-opens h k e =
     length-by-counts is is-eq is-refl (keep (isOpen h) (distinct is (started h))) (keep (isOpen k) (distinct is (started k)))
     (λ t. open-tally h t ∙ ap bit (e t) ∙ sym (open-tally k t))
 
-same-lives : (h k : History) → ((t o : ℕ) → held h t o ≡ held k t o) → liveCount h ≡ liveCount k
+pub same-lives : (h k : History) → ((t o : ℕ) → isAnnounced (held h t o) ≡ isAnnounced (held k t o)) → liveCount h ≡ liveCount k
 same-lives h k e = length-by-counts samePair same-eq same-refl (lives h) (lives k) each
   where
     lives : History → List Pair
     lives l = keep (isLive l) (distinct samePair (pairs l))
 
     each : (q : Pair) → tally (samePair q) (lives h) ≡ tally (samePair q) (lives k)
-    each (pair t o) = live-tally h t o ∙ ap (λ (s : Announced). bit (isAnnounced s)) (e t o) ∙ sym (live-tally k t o)
+    each (pair t o) = live-tally h t o ∙ ap bit (e t o) ∙ sym (live-tally k t o)
 
 -- THE SAME ANSWER
 
 pub same-held : (h k : History) (t o : ℕ) → own h t o ≡ own k t o → common h o ≡ common k o → held h t o ≡ held k t o
 same-held h k t o m c = ap₂ (λ (x y : Announced). cond (eqb t 0) x y) c m
 
-pub alike-judged : {h k : History} → Alike h k → (e : Event) → judge rooms h e ≡ judge rooms k e
-alike-judged {h} {k} a = same-judged rooms (sightOf h) (sightOf k) (record {
-  place = a .at;
-  opened = λ t. a .each t .opened;
-  openCount = same-opens h k (λ t. a .each t .opened);
-  changed = a .each (holderAt (place h)) .changed ∙ ap (λ (p : Place). isChanged k (holderAt p)) (a .at);
-  held = each-held;
-  liveCount = same-lives h k each-held;
-})
-  where
-    each-held : (t o : ℕ) → held h t o ≡ held k t o
-    each-held t o = same-held h k t o (a .each t .mine o) (a .shared o)
+module _ {h k : History} (a : Alike h k) where
+  each-held : (t o : ℕ) → held h t o ≡ held k t o
+  each-held t o = same-held h k t o (a .each t .mine o) (a .shared o)
+
+  pub alike-opens : openCount h ≡ openCount k
+  alike-opens = same-opens h k (λ t. a .each t .opened)
+
+  pub alike-lives : liveCount h ≡ liveCount k
+  alike-lives = same-lives h k (λ t o. ap isAnnounced (each-held t o))
+
+  pub alike-judged : (e : Event) → judge rooms h e ≡ judge rooms k e
+  alike-judged = same-judged rooms (sightOf h) (sightOf k) (record {
+    place = a .at;
+    opened = λ t. a .each t .opened;
+    openCount = alike-opens;
+    changed = a .each (holderAt (place h)) .changed ∙ ap (λ (p : Place). isChanged k (holderAt p)) (a .at);
+    held = each-held;
+    liveCount = alike-lives;
+  })

@@ -12,6 +12,7 @@ pub mod ListTheorem
 pub mod Markers
 pub mod Alike
 pub mod Stays
+pub mod Filling
 pub mod Turns
 pub mod TurnsTheorem
 pub mod FirstFitLaws

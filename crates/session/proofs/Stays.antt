@@ -1,17 +1,15 @@
--- What the messages of a block of x leave as it was, and that from two histories which are alike at x they are answered the same. Assumes nothing.
-use mathlib.Core.Path.{_≡_, refl, sym, _∙_, ap, ap₂, fun-ext}
-use mathlib.Core.List.{List, _∷_}
-use mathlib.Core.Bool.{Bool, true, false, cond, not, _||_, _&&_, false≢true}
+-- The messages of a block of x, and what they leave as it was. Assumes nothing.
+use mathlib.Core.Path.{_≡_, refl, sym, _∙_, ap}
+use mathlib.Core.List.{List, [], _∷_}
+use mathlib.Core.Bool.{Bool, true, false, not, _&&_, false≢true}
 use Prim.Native.Nat.{ℕ}
-use lib.Dec.{eqb, leb}
-use Rattle.session.specs.declared.Place.{Place}
+use lib.Dec.{eqb}
+use borrow.Author.Tests.{eqb-true, ne-eqb}
 use Rattle.session.specs.declared.Place.the-variants.{Idle, Block}
-use Rattle.session.specs.declared.Answer.{Answer}
-use Rattle.session.specs.declared.Answer.the-variants as answer
 use Rattle.session.specs.Events.{Event, Begin, Commit, Origin, Relation, Change, Truncate, Neutral, Logical, StreamStart, StreamStop, StreamCommit, StreamAbort, Tuple}
-use Rattle.session.specs.History.{Announced, isAnnounced, orElse, Given, entry, History, place, placeAfter, isIdle, holderAt, isOpen, openCount, isChanged, common, held, liveCount}
-use Rattle.session.specs.Rules.{rooms, sightOf, visible, test, ruleChange, ruleTruncate, ruleNeutral, ruleLogical, ruleStreamStop, judge, accepts}
-use Rattle.session.proofs.Alike.{AlikeAt, at-refl, at-trans, at-after, same-held}
+use Rattle.session.specs.History.{Given, Entry, entry, History, placeAfter, place, isChanged, common}
+use Rattle.session.specs.Rules.{rooms, judge, accepts}
+use Rattle.session.proofs.Alike.{AlikeAt, Alike, at-refl, at-sym, at-trans, at-after}
 
 -- what may stand in a block behind its S
 pub data Inner : Event → Type 0 where
@@ -82,55 +80,80 @@ module _ (x : ℕ) (h : History) (g : Given) where
       go false t = refl
   turn-stays (goes p i) = inner-stays p i
 
--- THE SAME ANSWER TO WHAT IS ACCEPTED: the rooms (11, 12) do not matter then
+-- THE ENTRIES OF A BLOCK, or of the rest of one, put on a history one after the other
+abbrev pub onto : List Entry → History → History
+onto [] h = h
+onto (n ∷ es) h = onto es (n ∷ h)
 
-passed : (b : Bool) (n : ℕ) (rest : Answer) → accepts (test b n rest) ≡ true → test b n rest ≡ rest
-passed true n rest ok = refl
-passed false n rest ok = absurd (false≢true ok)
+abbrev pub Along : ℕ → List Entry → History → Type 0
+Along x [] h = Unit {0}
+Along x (entry e g ∷ es) h = Turn x h e × Along x es (entry e g ∷ h)
 
-passed-two : (b c : Bool) (n m : ℕ) (rest : Answer) → accepts (test b n (test c m rest)) ≡ true → test b n (test c m rest) ≡ rest
-passed-two true c n m rest ok = passed c m rest ok
-passed-two false c n m rest ok = absurd (false≢true ok)
+pub along-stays : (x : ℕ) (es : List Entry) (h : History) → Along x es h → Stays x h (onto es h)
+along-stays x [] h a = stays-refl x h
+along-stays x (entry e g ∷ es) h a = stays-trans (turn-stays x h g (a .0)) (along-stays x es (entry e g ∷ h) (a .1))
 
-module _ (h : History) where
-  originates : accepts (judge rooms h Origin) ≡ true → judge rooms h Origin ≡ answer.Accepted
-  originates = passed (not (isIdle (place h)) && not (isChanged h (holderAt (place h)))) 7 answer.Accepted
+-- the same entries on two histories that stand at the same place
+pub turn-other : {x : ℕ} {h k : History} → place h ≡ place k → {e : Event} → Turn x h e → Turn x k e
+turn-other p (starts q) = starts (sym p ∙ q)
+turn-other p (goes q i) = goes (sym p ∙ q) i
 
-  announces : (o i c : ℕ) → accepts (judge rooms h (Relation o i c)) ≡ true → judge rooms h (Relation o i c) ≡ answer.Accepted
-  announces o i c = passed-two (not (isIdle (place h))) (isAnnounced (held h (holderAt (place h)) o) || not (leb 256 (liveCount h))) 7 11 answer.Accepted
+pub along-other : (x : ℕ) (es : List Entry) (h k : History) → place h ≡ place k → Along x es h → Along x es k
+along-other x [] h k p a = tt
+along-other x (entry e g ∷ es) h k p a = (turn-other p (a .0), along-other x es (entry e g ∷ h) (entry e g ∷ k) (ap (placeAfter e) p) (a .1))
 
-  opens : place h ≡ Idle → (x : ℕ) (first : Bool) → accepts (judge rooms h (StreamStart x first)) ≡ true → judge rooms h (StreamStart x first) ≡ answer.Accepted
-  opens p x first ok = rw p (passed-two (cond first (not (isOpen h x)) (isOpen h x)) (not (first && leb 16 (openCount h))) 8 12 answer.Accepted (rw p at ok))
+onto-place : (es : List Entry) (h k : History) → place h ≡ place k → place (onto es h) ≡ place (onto es k)
+onto-place [] h k p = p
+onto-place (entry e g ∷ es) h k p = onto-place es (entry e g ∷ h) (entry e g ∷ k) (ap (placeAfter e) p)
 
-module _ (x : ℕ) (h k : History) where
-  -- what a change in a block of x sees
-  seen : place h ≡ Block x → place k ≡ Block x → AlikeAt x h k → ((o : ℕ) → common h o ≡ common k o) → (o : ℕ) → visible (sightOf h) o ≡ visible (sightOf k) o
-  seen p q a c o = rw (p, q) (ap₂ orElse (same-held h k x o (a .mine o) (c o)) (c o))
+onto-alike : (t : ℕ) (es : List Entry) (h k : History) → place h ≡ place k → AlikeAt t h k → AlikeAt t (onto es h) (onto es k)
+onto-alike t [] h k p a = a
+onto-alike t (entry e g ∷ es) h k p a = onto-alike t es (entry e g ∷ h) (entry e g ∷ k) (ap (placeAfter e) p) (at-after p a e g)
 
-  inner-same : place h ≡ place k → ((o : ℕ) → visible (sightOf h) o ≡ visible (sightOf k) o) → {e : Event} → Inner e
-      → accepts (judge rooms h e) ≡ true → accepts (judge rooms k e) ≡ true → judge rooms h e ≡ judge rooms k e
-  inner-same p see origin u v = originates h u ∙ sym (originates k v)
-  inner-same p see (relation {o} {i} {c}) u v = announces h o i c u ∙ sym (announces k o i c v)
-  inner-same p see (change {y} {o} {ts}) u v = ap₂ (λ (q : Place) (s : Announced). ruleChange q s ts) p (see o)
-  inner-same p see (truncate {y} {os}) u v = ap₂ (λ (q : Place) (s : ℕ → Announced). ruleTruncate q s os) p (fun-ext see)
-  inner-same p see neutral u v = ap ruleNeutral p
-  inner-same p see (logical {b}) u v = ap (λ (q : Place). ruleLogical q b) p
-  inner-same p see stop u v = ap ruleStreamStop p
+-- TWO BLOCKS IN EITHER ORDER: f of x and s of y, each from idle to idle
+pub record Blocks (x y : ℕ) (h : History) (f s : List Entry) : Type 0 where
+  pub differ : x ≡ y → ⊥
+  pub first : Along x f h
+  pub second : Along y s (onto f h)
+  pub before : place h ≡ Idle
+  pub between : place (onto f h) ≡ Idle
+  pub behind : place (onto s (onto f h)) ≡ Idle
 
-  pub turn-same : {e : Event} → Turn x h e → Turn x k e → AlikeAt x h k → ((o : ℕ) → common h o ≡ common k o)
-      → accepts (judge rooms h e) ≡ true → accepts (judge rooms k e) ≡ true → judge rooms h e ≡ judge rooms k e
-  turn-same (starts {first} p) (starts q) a c i j = opens h p x first i ∙ sym (opens k q x first j)
-  turn-same (goes p n) (goes q m) a c i j = inner-same (p ∙ sym q) (seen p q a c) n i j
+module _ {x y : ℕ} {h : History} {f s : List Entry} (b : Blocks x y h f s) where
+  pub second-before : Along y s h
+  second-before = along-other y s (onto f h) h (b .between ∙ sym (b .before)) (b .second)
 
--- A BLOCK, or the rest of one, whose messages are given to two histories; it leaves h' and k'
-pub data Both (x : ℕ) (h' k' : History) : History → History → Type 0 where
-  over : Both x h' k' h' k'
-  more : {h k : History} (e : Event) (g : Given) → place h ≡ place k → Turn x h e → Turn x k e → Both x h' k' (entry e g ∷ h) (entry e g ∷ k) → Both x h' k' h k
+  pub second-idle : place (onto s h) ≡ Idle
+  second-idle = onto-place s h (onto f h) (b .before ∙ sym (b .between)) ∙ b .behind
 
-pub both-stays : {x : ℕ} {h' k' h k : History} → Both x h' k' h k → Stays x h h'
-both-stays {x} {h'} over = stays-refl x h'
-both-stays {x} {h = h} (more e g p t u b) = stays-trans (turn-stays x h g t) (both-stays b)
+  pub first-behind : Along x f (onto s h)
+  first-behind = along-other x f h (onto s h) (b .before ∙ sym second-idle) (b .first)
 
-pub both-moved : {x : ℕ} {h' k' h k : History} → Both x h' k' h k → (t : ℕ) → AlikeAt t h k → AlikeAt t h' k'
-both-moved over t a = a
-both-moved (more e g p m n b) t a = both-moved b t (at-after p a e g)
+  -- each block finds what it had
+  pub stays-first : Stays x h (onto f h)
+  stays-first = along-stays x f h (b .first)
+
+  pub stays-second : Stays y h (onto s h)
+  stays-second = along-stays y s h second-before
+
+  pub either-alike : Alike (onto s (onto f h)) (onto f (onto s h))
+  either-alike = record {
+    at = b .behind ∙ sym (onto-place f (onto s h) h (second-idle ∙ sym (b .before)) ∙ b .between);
+    each = at;
+    shared = λ o. A .shared o ∙ stays-first .shared o ∙ sym (stays-second .shared o) ∙ sym (B .shared o);
+  }
+    where
+      A : Stays y (onto f h) (onto s (onto f h))
+      A = along-stays y s (onto f h) (b .second)
+
+      B : Stays x (onto s h) (onto f (onto s h))
+      B = along-stays x f (onto s h) first-behind
+
+      at : (t : ℕ) → AlikeAt t (onto s (onto f h)) (onto f (onto s h))
+      at t = go (eqb y t) refl
+        where
+          go : (u : Bool) → eqb y t ≡ u → AlikeAt t (onto s (onto f h)) (onto f (onto s h))
+          go false n = at-trans (A .others t n) (onto-alike t f h (onto s h) (b .before ∙ sym second-idle) (at-sym (stays-second .others t n)))
+          go true w =
+              let n : eqb x t ≡ false = ne-eqb x t (λ e. b .differ (e ∙ sym (eqb-true y t w))) in
+              at-trans (onto-alike t s (onto f h) h (b .between ∙ sym (b .before)) (stays-first .others t n)) (at-sym (B .others t n))

@@ -1,9 +1,9 @@
 -- Two neighbouring blocks of different streamed transactions change places, whatever is given and got with each message. Assumes nothing.
-use mathlib.Core.Path.{_≡_, refl, sym, _∙_, ap, ap₂}
+use mathlib.Core.Path.{_≡_, refl, sym, _∙_, ap, ap₂, subst}
 use mathlib.Core.List.{List, [], _∷_, _++_, map}
 use mathlib.Core.Bool.{Bool, true, false, cond, _&&_, false≢true}
 use Prim.Native.Nat.{ℕ, suc}
-use borrow.Author.Tests.{eqb-true, ne-eqb}
+use borrow.Author.Tests.{ne-eqb}
 use lib.Dec.{eqb}
 use lib.ListN.{length, drop}
 use lib.Seq.{drop-at}
@@ -14,23 +14,30 @@ use Rattle.message.specs.declared.Message.the-variants as m
 use Rattle.message.specs.declared.Read.{Read}
 use Rattle.message.specs.declared.Read.the-variants as read
 use Rattle.message.specs.Layout.{readFields}
-use Rattle.message.specs.Kinds.{Kind, streamStart, layout}
-use Rattle.message.specs.Messages.{messageOf, readMessage}
+use Rattle.message.specs.Kinds.{streamStart, layout}
+use Rattle.message.specs.Messages.{readMessage}
 use Rattle.message.specs.Encode.{kindOfMessage}
 use Rattle.message.proofs.Parts.{kind-back}
 use Rattle.message.proofs.Accepted.{accepted}
 use Rattle.session.specs.declared.Place.{Place}
 use Rattle.session.specs.declared.Place.the-variants.{Idle, Transaction, Block}
 use Rattle.session.specs.Events.{Event, StreamStart, StreamStop, eventOf}
-use Rattle.session.specs.History.{Given, bytesOf, entry, History, place, inBlock, common}
+use Rattle.session.specs.History.{Given, bytesOf, tagOf, Entry, entry, History, placeAfter, place, inBlock, common}
 use Rattle.session.specs.Rules.{rooms, judge, accepts, Heard, unread, heard, heardOf, hears}
+use Rattle.session.specs.State.{State, sorted, freshBy, stateBy}
 use Rattle.session.specs.Turns.{ToStop, stops, goes, BlockOf, starts}
 use Rattle.session.proofs.Tests.{and-parts}
-use Rattle.session.proofs.Alike.{AlikeAt, Alike, at-sym, at-trans, at-after}
+use Rattle.session.proofs.Formed.{NonZero}
+use Rattle.session.proofs.Lawful.{sorted-lawful}
+use Rattle.session.proofs.Agreement.{fresh, kept}
+use Rattle.session.proofs.Runs.{Well, hears-well, Agrees}
+use Rattle.session.proofs.Alike.{AlikeAt, at-sym, at-after}
 use Rattle.session.proofs.Stays as turn
-use Rattle.session.proofs.Stays.{Turn, inner, turn-open, Stays, turn-stays, turn-same, Both, over, more, both-stays, both-moved}
+use Rattle.session.proofs.Stays.{Turn, inner, turn-open, turn-stays, onto, Along, turn-other, along-other, Blocks, second-before, second-idle, first-behind, stays-first, stays-second, either-alike}
+use Rattle.session.proofs.Filling.{Within, agreed-within, within-alike, along-fills, turn-same}
 
--- A WAY OF JUDGING: what is given with a message, and what the message gets; whether that is acceptance; and which histories this way cannot tell apart
+-- A WAY OF JUDGING: what is given with a message, and what the message gets; whether that is acceptance; which histories this way cannot tell apart;
+-- and what it has room for
 pub record Way : Type 1 where
   pub Item : Type 0
   pub Gets : Type 0
@@ -38,16 +45,24 @@ pub record Way : Type 1 where
   pub gets : History → Heard → Item → Gets
   pub taken : Gets → Bool
   pub Like : History → History → Type 0
-  -- what is taken is a message that the rules accept; in a block it gets what the rules answer
+  pub Fits : History → Type 0
+  -- what is taken is a message that the rules accept
   pub unread-not : (h : History) (n o : ℕ) (i : Item) → taken (gets h (unread n o) i) ≡ false
   pub accepted : (h : History) (e : Event) (i : Item) → taken (gets h (heard e) i) ≡ true → accepts (judge rooms h e) ≡ true
+  -- in a block, what the rules accept is taken where there is room behind it, and it gets what the rules answer
+  pub takes : (x : ℕ) (h : History) (e : Event) (i : Item) → Turn x h e → accepts (judge rooms h e) ≡ true → Fits (entry e (givenOf i) ∷ h) → taken (gets h (heard e) i) ≡ true
   pub same : (x : ℕ) (h k : History) (e : Event) (i : Item) → Turn x h e → Turn x k e → taken (gets h (heard e) i) ≡ true → taken (gets k (heard e) i) ≡ true
       → judge rooms h e ≡ judge rooms k e → gets h (heard e) i ≡ gets k (heard e) i
-  -- what is alike gets the same, and stays alike
+  -- what is alike gets the same, and stays alike; two blocks in either order leave what is alike
   pub like-place : (h k : History) → Like h k → place h ≡ place k
   pub like-gets : (h k : History) → Like h k → (m : Heard) (i : Item) → gets h m i ≡ gets k m i
   pub like-after : (h k : History) → Like h k → (e : Event) (i : Item) → Like (entry e (givenOf i) ∷ h) (entry e (givenOf i) ∷ k)
-  pub like-swapped : (x y : ℕ) → (x ≡ y → ⊥) → (h a b ab ba : History) → Both x a ba h b → Both y ab b a h → Alike ab ba → Like ab ba
+  pub like-blocks : (x y : ℕ) (h : History) (f s : List Entry) → Blocks x y h f s → Like (onto s (onto f h)) (onto f (onto s h))
+  -- what is taken fits; in a block the room only fills; what is alike needs the same room
+  pub fits-none : Fits []
+  pub fits-after : (h : History) (e : Event) (i : Item) → taken (gets h (heard e) i) ≡ true → Fits h → Fits (entry e (givenOf i) ∷ h)
+  pub fits-before : (x : ℕ) (h : History) (e : Event) (g : Given) → Turn x h e → Fits (entry e g ∷ h) → Fits h
+  pub fits-like : (h k : History) → Like h k → Fits h → Fits k
 
 -- a Stream Start is read alike inside and outside of blocks
 start-anywhere : (v : Version) (b : Bool) (xs : List ℕ) (x first : ℕ) (k : Message) → readMessage v false xs ≡ read.Message (m.StreamStart x first) → readMessage v b xs ≡ read.Message k
@@ -74,6 +89,25 @@ module _ (W : Way) where
   abbrev pub next : History → Heard → W .Item → History
   next h (unread n o) i = h
   next h (heard e) i = cond (W .taken (W .gets h (heard e) i)) (entry e (W .givenOf i) ∷ h) h
+
+  fits-along : (x : ℕ) (es : List Entry) (h : History) → Along x es h → W .Fits (onto es h) → W .Fits h
+  fits-along x [] h a f = f
+  fits-along x (entry e g ∷ es) h a f = W .fits-before x h e g (a .0) (fits-along x es (entry e g ∷ h) (a .1) f)
+
+  -- some record agrees with it, and it fits
+  abbrev Held : History → Type 0
+  Held h = ((s : State) × Agrees s h) × W .Fits h
+
+  held-next : (h : History) (m : Heard) (i : W .Item) → Well (bytesOf (W .givenOf i)) m → Held h → Held (next h m i)
+  held-next h (unread n o) i f a = a
+  held-next h (heard e) i f a = go (W .taken (W .gets h (heard e) i)) refl
+    where
+      g : Given
+      g = W .givenOf i
+
+      go : (b : Bool) → W .taken (W .gets h (heard e) i) ≡ b → Held (cond b (entry e (W .givenOf i) ∷ h) h)
+      go true ok = ((stateBy sorted (a .0 .0) e (tagOf g), kept sorted sorted-lawful (a .0 .0) h (a .0 .1) e g (f .0) (W .accepted h e i ok)), W .fits-after h e i ok (a .1))
+      go false ok = a
 
 module _ (W : Way) (v : Version) where
   abbrev hearsAt : History → W .Item → Heard
@@ -103,6 +137,12 @@ module _ (W : Way) (v : Version) where
   get-length [] h = refl
   get-length (i ∷ k) h = ap suc (get-length k (next W h (hearsAt h i) i))
 
+  -- the rooms hold out, whatever the list
+  held-all : (l : List (W .Item)) (h : History) → Held W h → Held W (leave h l)
+  unfolding leave
+  held-all [] h a = a
+  held-all (i ∷ l) h a = held-all l (next W h (hearsAt h i) i) (held-next W h (hearsAt h i) i (hears-well v (place h) (bytesOf (W .givenOf i))) a)
+
   -- HISTORIES THAT ARE ALIKE
 
   like-all : (l : List (W .Item)) (h k : History) → W .Like h k → getAll h l ≡ getAll k l
@@ -127,46 +167,56 @@ module _ (W : Way) (v : Version) where
 
   -- ONE MESSAGE that is taken
 
-  record Taken (h : History) (i : W .Item) (l : List (W .Item)) (e : Event) : Type 0 where
-    ok : W .taken (W .gets h (heard e) i) ≡ true
-    then : allTaken W (getAll (entry e (W .givenOf i) ∷ h) l) ≡ true
-    got : getAll h (i ∷ l) ≡ W .gets h (heard e) i ∷ getAll (entry e (W .givenOf i) ∷ h) l
-    leaves : leave h (i ∷ l) ≡ leave (entry e (W .givenOf i) ∷ h) l
-
-  module _ (h : History) (i : W .Item) (l : List (W .Item)) (a : allTaken W (getAll h (i ∷ l)) ≡ true) where
-    was-heard : {n o : ℕ} {A : Type 0} → hearsAt h i ≡ unread n o → A
+  module _ (h : History) (i : W .Item) (l : List (W .Item)) (e : Event) (q : hearsAt h i ≡ heard e) where
+    got-first : W .taken (W .gets h (heard e) i) ≡ true → getAll h (i ∷ l) ≡ W .gets h (heard e) i ∷ getAll (entry e (W .givenOf i) ∷ h) l
     unfolding getAll
-    was-heard {n} {o} q = absurd (false≢true (rw (q, W .unread-not h n o i) at a))
+    got-first ok = rw (q, ok)
 
-    taking : (e : Event) → hearsAt h i ≡ heard e → Taken h i l e
-    unfolding getAll leave
-    taking e q = record { ok = parts .0; then = rw (parts .0) at (parts .1); got = rw (q, parts .0); leaves = rw (q, parts .0) }
-      where
-        parts : (W .taken (W .gets h (heard e) i) ≡ true) × (allTaken W (getAll (cond (W .taken (W .gets h (heard e) i)) (entry e (W .givenOf i) ∷ h) h) l) ≡ true)
-        parts = and-parts _ _ (rw q at a)
+    left-first : W .taken (W .gets h (heard e) i) ≡ true → leave h (i ∷ l) ≡ leave (entry e (W .givenOf i) ∷ h) l
+    unfolding leave
+    left-first ok = rw (q, ok)
 
-  -- A BLOCK OF x, given to two histories
-  record Turned (x : ℕ) (h k : History) (l : List (W .Item)) : Type 0 where
-    trace : Both x (leave h l) (leave k l) h k
-    idle : place (leave h l) ≡ Idle
-    same : AlikeAt x h k → ((o : ℕ) → common h o ≡ common k o) → getAll h l ≡ getAll k l
+    -- the first of a list that is taken, and the others
+    taking : allTaken W (getAll h (i ∷ l)) ≡ true → (W .taken (W .gets h (heard e) i) ≡ true) × (allTaken W (getAll (entry e (W .givenOf i) ∷ h) l) ≡ true)
+    unfolding getAll
+    taking a =
+        let t = and-parts (W .taken (W .gets h (heard e) i)) (allTaken W (getAll (cond (W .taken (W .gets h (heard e) i)) (entry e (W .givenOf i) ∷ h) h) l)) (rw q at a) in
+        (t .0, rw (t .0) at (t .1))
 
-  module _ (x : ℕ) where
-    no-more : (h k : History) → place h ≡ Idle → Turned x h k []
+  was-heard : (h : History) (i : W .Item) (l : List (W .Item)) → allTaken W (getAll h (i ∷ l)) ≡ true → {n o : ℕ} {A : Type 0} → hearsAt h i ≡ unread n o → A
+  unfolding getAll
+  was-heard h i l a {n} {o} q = absurd (false≢true (rw (q, W .unread-not h n o i) at a))
+
+  -- A BLOCK OF x that was taken, or the rest of one: its entries; and from every other history that is alike at x, and has room for them, it gets the same
+  record Turned (x : ℕ) (h : History) (l : List (W .Item)) : Type 0 where
+    entries : List Entry
+    along : Along x entries h
+    leaves : leave h l ≡ onto entries h
+    idle : place (onto entries h) ≡ Idle
+    again : (k : History) → place h ≡ place k → AlikeAt x h k → ((o : ℕ) → common h o ≡ common k o) → Within (onto entries k) → W .Fits (onto entries k)
+        → (getAll h l ≡ getAll k l) × (leave k l ≡ onto entries k)
+
+  module _ (x : ℕ) (nz : NonZero x) where
+    no-more : (h : History) → place h ≡ Idle → Turned x h []
     unfolding leave getAll
-    no-more h k p = record { trace = over; idle = p; same = λ a c. refl }
+    no-more h p = record { entries = []; along = tt; leaves = refl; idle = p; again = λ k q a c w f. (refl, refl) }
 
-    one-more : (h k : History) (i : W .Item) (l : List (W .Item)) (e : Event) → Taken h i l e → Taken k i l e → place h ≡ place k → Turn x h e → Turn x k e
-        → Turned x (entry e (W .givenOf i) ∷ h) (entry e (W .givenOf i) ∷ k) l → Turned x h k (i ∷ l)
-    one-more h k i l e T K p t u R = record {
-      trace = rw (T .leaves, K .leaves) (more e g p t u (R .trace));
-      idle = rw (T .leaves) (R .idle);
-      same = λ a c.
-          T .got
-          ∙ ap₂ (λ (o : W .Gets) (s : List (W .Gets)). o ∷ s)
-          (W .same x h k e i t u (T .ok) (K .ok) (turn-same x h k t u a c (W .accepted h e i (T .ok)) (W .accepted k e i (K .ok))))
-          (R .same (at-after p a e g) (λ o. turn-stays x h g t .shared o ∙ c o ∙ sym (turn-stays x k g u .shared o)))
-          ∙ sym (K .got);
+    one-more : (h : History) (i : W .Item) (l : List (W .Item)) (e : Event) → hearsAt h i ≡ heard e → W .taken (W .gets h (heard e) i) ≡ true → Turn x h e
+        → Turned x (entry e (W .givenOf i) ∷ h) l → Turned x h (i ∷ l)
+    one-more h i l e q ok t R = record {
+      entries = entry e g ∷ R .entries;
+      along = (t, R .along);
+      leaves = left-first h i l e q ok ∙ R .leaves;
+      idle = R .idle;
+      again = λ k p a c w f.
+          let u = turn-other p t in
+          let after = along-other x (R .entries) (entry e g ∷ h) (entry e g ∷ k) (ap (placeAfter e) p) (R .along) in
+          let j = turn-same x nz h k g a c t u (W .accepted h e i ok) (along-fills x nz (R .entries) (entry e g ∷ k) after w) in
+          let ok' = W .takes x k e i u (ap accepts (sym j) ∙ W .accepted h e i ok) (fits-along W x (R .entries) (entry e g ∷ k) after f) in
+          let q' : hearsAt k i ≡ heard e = ap (λ (s : Place). hears v s (bytesOf g)) (sym p) ∙ q in
+          let r = R .again (entry e g ∷ k) (ap (placeAfter e) p) (at-after p a e g) (λ o. turn-stays x h g t .shared o ∙ c o ∙ sym (turn-stays x k g u .shared o)) w f in
+          (got-first h i l e q ok ∙ ap₂ (λ (s : W .Gets) (r : List (W .Gets)). s ∷ r) (W .same x h k e i t u ok ok' j) (r .0) ∙ sym (got-first k i l e q' ok'),
+            left-first k i l e q' ok' ∙ r .1);
     }
       where
         g : Given
@@ -174,118 +224,139 @@ module _ (W : Way) (v : Version) where
 
     -- behind the S
     abbrev Rest : List (W .Item) → Type 0
-    Rest l = (h k : History) → place h ≡ Block x → place k ≡ Block x → allTaken W (getAll h l) ≡ true → allTaken W (getAll k l) ≡ true → Turned x h k l
+    Rest l = (h : History) → place h ≡ Block x → allTaken W (getAll h l) ≡ true → Turned x h l
 
-    heard-there : (h : History) → place h ≡ Block x → (i : W .Item) (m : Heard) → hears v (Block x) (bytesOf (W .givenOf i)) ≡ m → hearsAt h i ≡ m
-    heard-there h p i m q = ap (λ (c : Place). hears v c (bytesOf (W .givenOf i))) p ∙ q
+    module _ (i : W .Item) (l : List (W .Item)) (h : History) (p : place h ≡ Block x) (a : allTaken W (getAll h (i ∷ l)) ≡ true) where
+      there : (m : Heard) → hears v (Block x) (bytesOf (W .givenOf i)) ≡ m → hearsAt h i ≡ m
+      there m q = ap (λ (c : Place). hears v c (bytesOf (W .givenOf i))) p ∙ q
 
-    module _ (i : W .Item) (l : List (W .Item)) (h k : History) (p : place h ≡ Block x) (q : place k ≡ Block x)
-        (a : allTaken W (getAll h (i ∷ l)) ≡ true) (b : allTaken W (getAll k (i ∷ l)) ≡ true) where
       inside : (e : Event) → hears v (Block x) (bytesOf (W .givenOf i)) ≡ heard e
-          → (turn.Inner e → Taken h i l e → Taken k i l e → Turned x (entry e (W .givenOf i) ∷ h) (entry e (W .givenOf i) ∷ k) l) → Turned x h k (i ∷ l)
+          → (turn.Inner e → allTaken W (getAll (entry e (W .givenOf i) ∷ h) l) ≡ true → Turned x (entry e (W .givenOf i) ∷ h) l) → Turned x h (i ∷ l)
       inside e w f =
-          let T = taking h i l a e (heard-there h p i (heard e) w) in
-          let K = taking k i l b e (heard-there k q i (heard e) w) in
-          let n = inner x h p e (W .accepted h e i (T .ok)) in
-          one-more h k i l e T K (p ∙ sym q) (turn.goes p n) (turn.goes q n) (f n T K)
+          let q = there (heard e) w in
+          let t = taking h i l e q a in
+          let n = inner x h p e (W .accepted h e i (t .0)) in
+          one-more h i l e q (t .0) (turn.goes p n) (f n (t .1))
 
-      further : (hears v (Block x) (bytesOf (W .givenOf i)) ≡ heard StreamStop → ⊥) → Rest l → Turned x h k (i ∷ l)
+      further : (hears v (Block x) (bytesOf (W .givenOf i)) ≡ heard StreamStop → ⊥) → Rest l → Turned x h (i ∷ l)
       further z f = go (hears v (Block x) (bytesOf (W .givenOf i))) refl
         where
-          go : (m : Heard) → hears v (Block x) (bytesOf (W .givenOf i)) ≡ m → Turned x h k (i ∷ l)
-          go (unread n o) w = was-heard h i l a (heard-there h p i (unread n o) w)
-          go (heard e) w =
-              let d : e ≡ StreamStop → ⊥ = λ s. z (w ∙ ap heard s) in
-              inside e w (λ n T K. f (entry e (W .givenOf i) ∷ h) (entry e (W .givenOf i) ∷ k) (turn-open x h p n d) (turn-open x k q n d) (T .then) (K .then))
+          go : (m : Heard) → hears v (Block x) (bytesOf (W .givenOf i)) ≡ m → Turned x h (i ∷ l)
+          go (unread n o) w = was-heard h i l a (there (unread n o) w)
+          go (heard e) w = inside e w (λ n r. f (entry e (W .givenOf i) ∷ h) (turn-open x h p n (λ s. z (w ∙ ap heard s))) r)
 
     to-stop : (l : List (W .Item)) → ToStop v x (map (W .givenOf) l) → Rest l
-    to-stop (i ∷ []) (stops w) h k p q a b = inside i [] h k p q a b StreamStop w (λ n T K. no-more (entry StreamStop (W .givenOf i) ∷ h) (entry StreamStop (W .givenOf i) ∷ k) refl)
-    to-stop (i ∷ []) (goes z s) h k p q a b = further i [] h k p q a b z (to-stop [] s)
-    to-stop (i ∷ (j ∷ l)) (goes z s) h k p q a b = further i (j ∷ l) h k p q a b z (to-stop (j ∷ l) s)
+    to-stop (i ∷ []) (stops w) h p a = inside i [] h p a StreamStop w (λ n r. no-more (entry StreamStop (W .givenOf i) ∷ h) refl)
+    to-stop (i ∷ []) (goes z s) h p a = further i [] h p a z (to-stop [] s)
+    to-stop (i ∷ (j ∷ l)) (goes z s) h p a = further i (j ∷ l) h p a z (to-stop (j ∷ l) s)
 
-    -- an S that is taken was heard as one, and stands where history is idle
-    module _ (i : W .Item) (l : List (W .Item)) (first : ℕ) (q : readMessage v false (bytesOf (W .givenOf i)) ≡ read.Message (m.StreamStart x first))
-        (h : History) (a : allTaken W (getAll h (i ∷ l)) ≡ true) where
-      started : Taken h i l (StreamStart x (eqb first 1))
-      started = taking h i l a (StreamStart x (eqb first 1)) (go (readMessage v (inBlock (place h)) xs) refl)
+  -- A WHOLE BLOCK stands where history is idle, and its xid is not 0
+  record Block-turned (x : ℕ) (h : History) (l : List (W .Item)) : Type 0 where
+    proper : NonZero x
+    idle : place h ≡ Idle
+    turned : Turned x h l
+
+  block-turned : (x : ℕ) (l : List (W .Item)) → BlockOf v x (map (W .givenOf) l) → (h : History) → allTaken W (getAll h l) ≡ true → Block-turned x h l
+  block-turned x (i ∷ l) (starts {first = first} w s) h a =
+      record { proper = nz; idle = p; turned = one-more x nz h i l e q (t .0) (turn.starts p) (to-stop x nz l s (entry e (W .givenOf i) ∷ h) refl (t .1)) }
+    where
+      xs : List ℕ
+      xs = bytesOf (W .givenOf i)
+
+      e : Event
+      e = StreamStart x (eqb first 1)
+
+      -- an S that is taken was heard as one
+      q : hearsAt h i ≡ heard (StreamStart x (eqb first 1))
+      q = go (readMessage v (inBlock (place h)) (bytesOf (W .givenOf i))) refl
         where
-          xs : List ℕ
-          xs = bytesOf (W .givenOf i)
+          go : (r : Read) → readMessage v (inBlock (place h)) xs ≡ r → heardOf (readMessage v (inBlock (place h)) xs) xs ≡ heard (StreamStart x (eqb first 1))
+          go (read.Refused r) u = was-heard h i l a (ap (λ (s : Read). heardOf s xs) u)
+          go (read.Message n) u = ap (λ (s : Read). heardOf s xs) u ∙ ap (λ (s : Message). heard (eventOf s xs)) (start-anywhere v (inBlock (place h)) xs x first n w u)
 
-          go : (r : Read) → readMessage v (inBlock (place h)) xs ≡ r → hearsAt h i ≡ heard (StreamStart x (eqb first 1))
-          go (read.Refused r) w = was-heard h i l a (ap (λ (s : Read). heardOf s xs) w)
-          go (read.Message n) w = ap (λ (s : Read). heardOf s xs) w ∙ ap (λ (s : Message). heard (eventOf s xs)) (start-anywhere v (inBlock (place h)) xs x first n q w)
+      t : (W .taken (W .gets h (heard e) i) ≡ true) × (allTaken W (getAll (entry e (W .givenOf i) ∷ h) l) ≡ true)
+      t = taking h i l e q a
 
-      was-idle : place h ≡ Idle
-      was-idle = go (place h) refl (W .accepted h (StreamStart x (eqb first 1)) i (started .ok))
+      nz : NonZero x
+      nz = (rw q at (hears-well v (place h) (bytesOf (W .givenOf i)))) .0 .0
+
+      p : place h ≡ Idle
+      p = go (place h) refl (W .accepted h e i (t .0))
         where
-          go : (p : Place) → place h ≡ p → accepts (judge rooms h (StreamStart x (eqb first 1))) ≡ true → place h ≡ Idle
-          go Idle w ok = w
-          go (Transaction n) w ok = absurd (false≢true (rw w at ok))
-          go (Block y) w ok = absurd (false≢true (rw w at ok))
-
-    block-turned : (l : List (W .Item)) → BlockOf v x (map (W .givenOf) l) → (h k : History) → allTaken W (getAll h l) ≡ true → allTaken W (getAll k l) ≡ true → Turned x h k l
-    block-turned (i ∷ l) (starts {first = first} w s) h k a b =
-        let e = StreamStart x (eqb first 1) in
-        let T = started i l first w h a in
-        let K = started i l first w k b in
-        let p = was-idle i l first w h a in
-        let q = was-idle i l first w k b in
-        one-more h k i l e T K (p ∙ sym q) (turn.starts p) (turn.starts q)
-        (to-stop l s (entry e (W .givenOf i) ∷ h) (entry e (W .givenOf i) ∷ k) refl refl (T .then) (K .then))
+          go : (c : Place) → place h ≡ c → accepts (judge rooms h (StreamStart x (eqb first 1))) ≡ true → place h ≡ Idle
+          go Idle u ok = u
+          go (Transaction n) u ok = absurd (false≢true (rw u at ok))
+          go (Block y) u ok = absurd (false≢true (rw u at ok))
 
   -- TWO BLOCKS CHANGE PLACES
   module _ (x y : ℕ) (d : x ≡ y → ⊥) (one two : List (W .Item)) (b : BlockOf v x (map (W .givenOf) one)) (c : BlockOf v y (map (W .givenOf) two)) (h : History)
-      (a1 : allTaken W (getAll h one) ≡ true) (a2 : allTaken W (getAll (leave h one) two) ≡ true)
-      (b1 : allTaken W (getAll h two) ≡ true) (b2 : allTaken W (getAll (leave h two) one) ≡ true) where
-    -- each block from the two histories that it is given to
-    first : Turned x h (leave h two) one
-    first = block-turned x one b h (leave h two) a1 b2
+      (a1 : allTaken W (getAll h one) ≡ true) (a2 : allTaken W (getAll (leave h one) two) ≡ true) (held : Held W h) where
+    first : Block-turned x h one
+    first = block-turned x one b h a1
 
-    second : Turned y (leave h one) h two
-    second = block-turned y two c (leave h one) h a2 b1
+    abbrev f : List Entry
+    f = first .turned .entries
 
-    -- the same blocks from the other history alone
-    first-last : Turned x (leave h two) (leave h two) one
-    first-last = block-turned x one b (leave h two) (leave h two) b2 b2
+    after-one : leave h one ≡ onto f h
+    after-one = first .turned .leaves
 
-    second-stays : Stays y h (leave h two)
-    second-stays = both-stays (block-turned y two c h h b1 b1 .trace)
+    second : Block-turned y (onto f h) two
+    second = block-turned y two c (onto f h) (ap (λ (k : History). allTaken W (getAll k two)) (sym after-one) ∙ a2)
 
-    first-stays : Stays x h (leave h one)
-    first-stays = both-stays (first .trace)
+    abbrev s : List Entry
+    s = second .turned .entries
+
+    after-both : leave (leave h one) two ≡ onto s (onto f h)
+    after-both = ap (λ (k : History). leave k two) after-one ∙ second .turned .leaves
+
+    blocks : Blocks x y h f s
+    blocks = record {
+      differ = d;
+      first = first .turned .along;
+      second = second .turned .along;
+      before = first .idle;
+      between = second .idle;
+      behind = second .turned .idle;
+    }
+
+    like : W .Like (onto s (onto f h)) (onto f (onto s h))
+    like = W .like-blocks x y h f s blocks
+
+    -- the rooms hold out behind both, so they do behind both in the other order, and behind the second alone
+    held-both : Held W (onto s (onto f h))
+    held-both = subst (Held W) after-both (held-all two (leave h one) (held-all one h held))
+
+    within : Within (onto f (onto s h))
+    within = within-alike (either-alike blocks) (agreed-within (held-both .0 .0) (onto s (onto f h)) (held-both .0 .1))
+
+    fits : W .Fits (onto f (onto s h))
+    fits = W .fits-like (onto s (onto f h)) (onto f (onto s h)) like (held-both .1)
+
+    second-again : (getAll (onto f h) two ≡ getAll h two) × (leave h two ≡ onto s h)
+    second-again =
+        second .turned .again h (second .idle ∙ sym (first .idle)) (stays-first blocks .others y (ne-eqb x y d)) (stays-first blocks .shared)
+        (along-fills x (first .proper) f (onto s h) (first-behind blocks) within) (fits-along W x f (onto s h) (first-behind blocks) fits)
+
+    first-again : (getAll h one ≡ getAll (onto s h) one) × (leave (onto s h) one ≡ onto f (onto s h))
+    first-again =
+        first .turned .again (onto s h) (first .idle ∙ sym (second-idle blocks))
+        (at-sym (stays-second blocks .others x (ne-eqb y x (λ e. d (sym e))))) (λ o. sym (stays-second blocks .shared o)) within fits
 
     first-same : getAll h one ≡ getAll (leave h two) one
-    first-same = first .same (at-sym (second-stays .others x (ne-eqb y x (λ e. d (sym e))))) (λ o. sym (second-stays .shared o))
+    first-same = first-again .0 ∙ ap (λ (k : History). getAll k one) (sym (second-again .1))
 
     second-same : getAll (leave h one) two ≡ getAll h two
-    second-same = second .same (first-stays .others y (ne-eqb x y d)) (first-stays .shared)
+    second-same = ap (λ (k : History). getAll k two) after-one ∙ second-again .0
 
-    swapped : W .Like (leave (leave h one) two) (leave (leave h two) one)
-    swapped = W .like-swapped x y d h (leave h one) (leave h two) (leave (leave h one) two) (leave (leave h two) one) (first .trace) (second .trace) (record {
-      at = second .idle ∙ sym (first-last .idle);
-      each = at;
-      shared = λ o. A .shared o ∙ first-stays .shared o ∙ sym (second-stays .shared o) ∙ sym (B .shared o);
-    })
-      where
-        A : Stays y (leave h one) (leave (leave h one) two)
-        A = both-stays (second .trace)
-
-        B : Stays x (leave h two) (leave (leave h two) one)
-        B = both-stays (first-last .trace)
-
-        at : (t : ℕ) → AlikeAt t (leave (leave h one) two) (leave (leave h two) one)
-        at t = go (eqb y t) refl
-          where
-            go : (u : Bool) → eqb y t ≡ u → AlikeAt t (leave (leave h one) two) (leave (leave h two) one)
-            go false n = at-trans (A .others t n) (both-moved (first .trace) t (at-sym (second-stays .others t n)))
-            go true w =
-                let n : eqb x t ≡ false = ne-eqb x t (λ e. d (e ∙ sym (eqb-true y t w))) in
-                at-trans (both-moved (second .trace) t (first-stays .others t n)) (at-sym (B .others t n))
+    later-same : (l : List (W .Item)) → getAll (leave (leave h one) two) l ≡ getAll (leave (leave h two) one) l
+    later-same l =
+        ap (λ (k : History). getAll k l) after-both
+        ∙ like-all l (onto s (onto f h)) (onto f (onto s h)) like
+        ∙ ap (λ (k : History). getAll k l) (sym (ap (λ (k : History). leave k one) (second-again .1) ∙ first-again .1))
 
   -- LISTS, from nothing, by a function that gets what this way gets
   module _ (run : List (W .Item) → List (W .Gets)) (is : (l : List (W .Item)) → run l ≡ getAll [] l) where
-    pub from : (k l : List (W .Item)) → drop (length k) (run (k ++ l)) ≡ getAll (leave [] k) l
+    from : (k l : List (W .Item)) → drop (length k) (run (k ++ l)) ≡ getAll (leave [] k) l
     from k l = ap (drop (length k)) (is (k ++ l) ∙ get-append k l []) ∙ drop-at (getAll [] k) (getAll (leave [] k) l) (length k) (get-length k [])
 
     from-two : (k l m : List (W .Item)) → drop (length (k ++ l)) (run ((k ++ l) ++ m)) ≡ getAll (leave (leave [] k) l) m
@@ -297,25 +368,25 @@ module _ (W : Way) (v : Version) where
   pub either-order :
       (run run' : List (W .Item) → List (W .Gets)) → ((l : List (W .Item)) → run l ≡ getAll [] l) → ((l : List (W .Item)) → run' l ≡ getAll [] l)
       → (x y : ℕ) → (x ≡ y → ⊥) → (before one two later : List (W .Item)) → BlockOf v x (map (W .givenOf) one) → BlockOf v y (map (W .givenOf) two)
-      → allTaken W (after run before (one ++ two)) ≡ true → allTaken W (after run' before (two ++ one)) ≡ true
+      → allTaken W (after run before (one ++ two)) ≡ true
       → (after run [] before ≡ after run' [] before)
       × (after run before one ≡ after run' (before ++ two) one)
       × (after run (before ++ one) two ≡ after run' before two)
       × (after run (before ++ (one ++ two)) later ≡ after run' (before ++ (two ++ one)) later)
-  either-order run run' is is' x y d before one two later b c p q = (
+  either-order run run' is is' x y d before one two later b c p = (
     from run is [] before ∙ sym (from run' is' [] before),
-    from run is before one ∙ first-same x y d one two b c h (i .0) (i .1) (j .0) (j .1) ∙ sym (from-two run' is' before two one),
-    from-two run is before one two ∙ second-same x y d one two b c h (i .0) (i .1) (j .0) (j .1) ∙ sym (from run' is' before two),
+    from run is before one ∙ first-same x y d one two b c h (i .0) (i .1) held ∙ sym (from-two run' is' before two one),
+    from-two run is before one two ∙ second-same x y d one two b c h (i .0) (i .1) held ∙ sym (from run' is' before two),
     from-two run is before (one ++ two) later ∙ ap (λ (k : History). getAll k later) (leave-append one two h)
-        ∙ like-all later (leave (leave h one) two) (leave (leave h two) one) (swapped x y d one two b c h (i .0) (i .1) (j .0) (j .1))
+        ∙ later-same x y d one two b c h (i .0) (i .1) held later
         ∙ sym (from-two run' is' before (two ++ one) later ∙ ap (λ (k : History). getAll k later) (leave-append two one h)),
   )
     where
       h : History
       h = leave [] before
 
+      held : Held W (leave [] before)
+      held = held-all before [] ((freshBy sorted, fresh sorted sorted-lawful), W .fits-none)
+
       i : (allTaken W (getAll h one) ≡ true) × (allTaken W (getAll (leave h one) two) ≡ true)
       i = both-taken W (getAll h one) (getAll (leave h one) two) (ap (allTaken W) (sym (from run is before (one ++ two) ∙ get-append one two h)) ∙ p)
-
-      j : (allTaken W (getAll h two) ≡ true) × (allTaken W (getAll (leave h two) one) ≡ true)
-      j = both-taken W (getAll h two) (getAll (leave h two) one) (ap (allTaken W) (sym (from run' is' before (two ++ one) ∙ get-append two one h)) ∙ q)

@@ -12,6 +12,7 @@ use Rattle.session.specs.Runs.{run}
 use Rattle.session.specs.Turns.{BlockOf, answersTo, allAccepted, Turns}
 use Rattle.session.proofs.ListTheorem.{session-answers}
 use Rattle.session.proofs.Alike.{Alike, alike-after, alike-judged}
+use Rattle.session.proofs.Stays.{either-alike}
 use Rattle.session.proofs.Turns.{Way, allTaken, next, getAll, either-order}
 
 abbrev alone : Way
@@ -22,13 +23,19 @@ alone = record {
   gets = λ h m g. answerTo rooms h m;
   taken = accepts;
   Like = Alike;
+  Fits = λ h. Unit {0};
   unread-not = λ h n o g. refl;
   accepted = λ h e g ok. ok;
+  takes = λ x h e g t ok f. ok;
   same = λ x h k e g t u i j s. s;
   like-place = λ h k a. a .at;
   like-gets = λ h k a m g. same-answer h k a m;
   like-after = λ h k a e g. alike-after a e g;
-  like-swapped = λ x y d h a b ab ba f s k. k;
+  like-blocks = λ x y h f s b. either-alike b;
+  fits-none = tt;
+  fits-after = λ h e g ok f. tt;
+  fits-before = λ x h e g t f. tt;
+  fits-like = λ h k a f. tt;
 }
   where
     same-answer : (h k : History) → Alike h k → (m : Heard) → answerTo rooms h m ≡ answerTo rooms k m
@@ -56,9 +63,9 @@ map-same (g ∷ l) = ap (λ (t : List Given). g ∷ t) (map-same l)
 
 pub turns : Turns
 unfolding answersTo
-turns start x y d before one two after b c p q =
+turns start x y d before one two after b c p =
     let r = either-order alone (versionOf start) answered answered is is x y d before one two after (rw (← map-same one) b) (rw (← map-same two) c)
-        (same-taken (answersTo start before (one ++ two)) ∙ p) (same-taken (answersTo start before (two ++ one)) ∙ q) in
+        (same-taken (answersTo start before (one ++ two)) ∙ p) in
     record { first = r .1; second = r .2; later = r .3 }
   where
     answered : List Given → List Answer

@@ -33,8 +33,8 @@ allAccepted [] = true
 allAccepted (a ∷ l) = accepts a && allAccepted l
 
 -- THE STATEMENT for a session alone. However it starts and whatever messages go before: where `one` is a block of x and `two` a block of y, x and y
--- differ, and every message of both is accepted in either order, each message of both and every message after them is answered the same in either order.
--- An answer to a change has its announcement's tag, identity and column count; tags travel with their messages.
+-- differ, and every message of both is accepted in this order, each message of both and every message after them is answered the same in either order:
+-- a change with its announcement's tag, identity and column count. So all are accepted in the other order too. Tags travel with their messages.
 pub record EitherOrder (start : Start) (before one two after : List Given) : Type 0 where
   pub first : answersTo start before one ≡ answersTo start (before ++ two) one
   pub second : answersTo start (before ++ one) two ≡ answersTo start before two
@@ -43,5 +43,4 @@ pub record EitherOrder (start : Start) (before one two after : List Given) : Typ
 abbrev pub Turns : Type 0
 Turns =
     (start : Start) (x y : ℕ) → (x ≡ y → ⊥) → (before one two after : List Given) → BlockOf (versionOf start) x one → BlockOf (versionOf start) y two
-    → allAccepted (answersTo start before (one ++ two)) ≡ true → allAccepted (answersTo start before (two ++ one)) ≡ true
-    → EitherOrder start before one two after
+    → allAccepted (answersTo start before (one ++ two)) ≡ true → EitherOrder start before one two after
