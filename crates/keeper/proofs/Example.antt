@@ -17,13 +17,13 @@ use Rattle.keeper.specs.Rules.{Call, call, recordOf, outcomes}
 use Rattle.keeper.proofs.Runs.{gets}
 
 -- an I under an xid, and its record in the block of xid 7
-abbrev insert : ℕ → List ℕ
+abbrev pub insert : ℕ → List ℕ
 insert x = 73 ∷ 0 ∷ 0 ∷ 0 ∷ x ∷ 0 ∷ 0 ∷ 0 ∷ 5 ∷ 78 ∷ 0 ∷ 1 ∷ 110 ∷ []
 
 abbrev packed : ℕ → List ℕ
 packed x = 195 ∷ 77 ∷ 0 ∷ 0 ∷ 0 ∷ 7 ∷ 0 ∷ 0 ∷ 0 ∷ x ∷ 0 ∷ 0 ∷ 0 ∷ 13 ∷ insert x
 
-abbrev commit : List ℕ
+abbrev pub commit : List ℕ
 commit = 99 ∷ 0 ∷ 0 ∷ 0 ∷ 7 ∷ (replicate 8 0 ++ (32 ∷ (replicate 7 0 ++ (40 ∷ replicate 8 0))))
 
 -- the buffer with nothing, one record and two in it

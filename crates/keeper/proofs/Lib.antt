@@ -9,3 +9,4 @@ pub mod Example
 pub mod Alike
 pub mod Rooms
 pub mod TurnsTheorem
+pub mod TurnsExample
