@@ -19,6 +19,7 @@ pub struct Announcement {
     pub columns: u64,
 }
 
+#[derive(Clone)]
 enum Event {
     Begin {
         final_lsn: u64,
@@ -48,11 +49,13 @@ enum Event {
 use Event::*;
 
 /// An accepted message, and where history stood before it.
+#[derive(Clone)]
 struct Entry {
     event: Event,
     place: Place,
 }
 
+#[derive(Clone)]
 pub struct History {
     version: u32,
     entries: Vec<Entry>,

@@ -1,24 +1,15 @@
-use crate::answers::{numbers_of, typed_numbers};
+use crate::answers::typed_numbers;
 use crate::deeds::{Deed, Deeds};
 use crate::ffi::{self, Record};
 use crate::generate::{damage, Draft};
-use crate::history::{History, Place};
 use crate::kept::{joined, laid, word, Kept, Piece};
 use crate::lent::{refused, Lent, LentBytes};
+use crate::model::{any_bytes, end, next_streamed, output, streamed, Model};
 use crate::rng::Rng;
-use crate::sequences::{any_next, commit, next, stream_abort, stream_commit, stream_start, Pool, MIXED};
+use crate::sequences::{any_next, commit, stream_abort, stream_commit, stream_start, Pool};
 use crate::sessions::{self, made_up_session};
 use crate::tally::{Counts, Tally};
 use kitsoriqu::{Keeper, Records, Refusal, Reply, Session};
-
-/// Few xids, so that they are used again as a transaction's and as a sub-transaction's, and streams that close more or less often.
-fn streamed(rng: &mut Rng) -> Pool {
-    Pool { oids: 2, xids: rng.pick(&[3, 5]), ends: 6, closes: rng.pick(&[1, 3, 6]), ..MIXED }
-}
-
-fn any_bytes(rng: &mut Rng, length: usize) -> Vec<u8> {
-    (0..length).map(|_| rng.byte()).collect()
-}
 
 /// A keeper's buffer, and how many bytes are held.
 #[derive(Clone, PartialEq, Debug)]
@@ -27,16 +18,22 @@ struct Hold {
     held: usize,
 }
 
+/// What a message gets.
+#[derive(PartialEq, Debug)]
+pub struct Got {
+    pub number: u32,
+    pub reply: [u64; ffi::REPLY],
+    pub out: Vec<u8>,
+}
+
 /// What a message gets and leaves.
 #[derive(PartialEq, Debug)]
 struct Outcome {
-    number: u32,
-    reply: [u64; ffi::REPLY],
-    out: Vec<u8>,
+    got: Got,
     hold: Hold,
 }
 
-fn reply_of([a, b, c, d]: [u64; 4], released: usize) -> [u64; 5] {
+pub fn reply_of([a, b, c, d]: [u64; 4], released: usize) -> [u64; 5] {
     [a, b, c, d, released as u64]
 }
 
@@ -48,13 +45,14 @@ fn give(record: &mut Lent<Record>, hold: &Hold, bytes: &[u8], tag: u64, out: &[u
     let number = ffi::keeper_give(&mut record.value, bytes, tag, buffer.value(), &mut held.value, out.value(), &mut reply.value);
     assert!(bytes == bytes_before, "the message was touched");
     assert!(number == 0 || record.value == session_before, "a refusal changed the session");
-    Outcome { number, reply: reply.back(), out: out.back(), hold: Hold { buffer: buffer.back(), held: held.back() } }
+    let got = Got { number, reply: reply.back(), out: out.back() };
+    Outcome { got, hold: Hold { buffer: buffer.back(), held: held.back() } }
 }
 
 /// Of an answer and what is released and kept then, in the buffer and the output as they were lent.
 fn outcome_of((number, answer): (u32, [u64; 4]), released: &[u8], kept: &Kept, lent: &Hold, out: &[u8]) -> Outcome {
     let hold = Hold { buffer: laid(&kept.bytes(), &lent.buffer), held: kept.held };
-    Outcome { number, reply: reply_of(answer, released.len()), out: laid(released, out), hold }
+    Outcome { got: Got { number, reply: reply_of(answer, released.len()), out: laid(released, out) }, hold }
 }
 
 /// The pieces that records are, which written down are the records' bytes.
@@ -65,20 +63,19 @@ fn pieces_of(records: Records) -> Vec<Piece> {
     pieces
 }
 
-/// One session with a keeper three times: the library's, the typed one, and the history with a list of what is kept. Beside them a
-/// session alone.
-struct Keepers {
+/// One session with a keeper three times: the library's, the typed one, and the model. Beside them a session alone.
+#[derive(Clone)]
+pub struct Keepers {
     record: Lent<Record>,
     hold: Hold,
     session: Session,
     keeper: Keeper,
-    history: History,
-    kept: Kept,
+    pub model: Model,
     alone: Lent<Record>,
 }
 
 impl Keepers {
-    fn start(version: u32, buffer: Vec<u8>) -> Keepers {
+    pub fn start(version: u32, buffer: Vec<u8>) -> Keepers {
         let mut started = Record::ZERO;
         ffi::session_start(&mut started, version);
         Keepers {
@@ -86,8 +83,7 @@ impl Keepers {
             hold: Hold { buffer: buffer.clone(), held: 0 },
             session: Session::new(version),
             keeper: Keeper::from_parts(buffer, 0),
-            history: History::new(version),
-            kept: Kept::nothing(),
+            model: Model::start(version),
             alone: Lent::of(started),
         }
     }
@@ -96,17 +92,10 @@ impl Keepers {
         self.hold.buffer.len()
     }
 
-    /// What the history and the list say.
+    /// What the model says.
     fn expected(&mut self, bytes: &[u8], tag: u64, out: &[u8]) -> Outcome {
-        let room = self.room();
-        let mut released = vec![];
-        let keep = |place| {
-            let block = if let Place::Block(xid) = place { Some(xid as u32) } else { None };
-            released = self.kept.give(block, bytes, room, out.len())?;
-            Ok(())
-        };
-        let answer = numbers_of(self.history.give_if(bytes, tag, keep));
-        outcome_of(answer, &released, &self.kept, &self.hold, out)
+        let (answer, released) = self.model.give(bytes, tag, self.room(), out.len());
+        outcome_of(answer, &released, &self.model.kept, &self.hold, out)
     }
 
     fn typed(&mut self, bytes: &[u8], tag: u64, out: &[u8]) -> Outcome {
@@ -119,33 +108,34 @@ impl Keepers {
         let (number, answer) = typed_numbers(answer);
         let (buffer, held) = self.keeper.clone().into_parts();
         assert_eq!((self.keeper.room(), self.keeper.held()), (buffer.len(), held));
-        Outcome { number, reply: reply_of(answer, released.len()), out, hold: Hold { buffer, held } }
+        Outcome { got: Got { number, reply: reply_of(answer, released.len()), out }, hold: Hold { buffer, held } }
     }
 
     /// The session alone answers the same, but where only the keeper refuses, and its record stays the same.
-    fn compare_alone(&mut self, bytes: &[u8], tag: u64, outcome: &Outcome) {
-        if let Refusal::OUTPUT | Refusal::KEEPER = outcome.number {
+    fn compare_alone(&mut self, bytes: &[u8], tag: u64, got: &Got) {
+        if let Refusal::OUTPUT | Refusal::KEEPER = got.number {
             let mut copied = Lent::of(self.alone.value.clone());
             assert_eq!(sessions::give(&mut copied, bytes, tag).0, 0, "a refusal of the session's comes first");
         } else {
             let (number, answer) = sessions::give(&mut self.alone, bytes, tag);
-            assert_eq!((number, &answer[..]), (outcome.number, &outcome.reply[..4]));
+            assert_eq!((number, &answer[..]), (got.number, &got.reply[..4]));
         }
         assert!(self.record.value == self.alone.value);
     }
 
     /// Gives each the message, with the same output: all get and leave the same.
-    fn give(&mut self, bytes: &[u8], tag: u64, out: &[u8], deeds: &mut Deeds) -> u32 {
-        let before = self.kept.clone();
+    pub fn give(&mut self, bytes: &[u8], tag: u64, out: &[u8], deeds: &mut Deeds) -> Got {
+        let before = self.model.kept.clone();
         let expected = self.expected(bytes, tag, out);
         let outcome = give(&mut self.record, &self.hold, bytes, tag, out);
         assert_eq!(outcome, expected, "{bytes:02X?} to {:02X?}", self.hold);
         assert_eq!(self.typed(bytes, tag, out), expected);
-        self.compare_alone(bytes, tag, &outcome);
-        let Outcome { number, hold, .. } = outcome;
-        deeds.note(&Deed { bytes, before: &before, after: &self.kept, number, room: self.room(), output: out.len() });
+        let Outcome { got, hold } = outcome;
+        self.compare_alone(bytes, tag, &got);
+        let after = &self.model.kept;
+        deeds.note(&Deed { bytes, before: &before, after, number: got.number, room: self.room(), output: out.len() });
         self.hold = hold;
-        number
+        got
     }
 
     /// The buffer gets so much room, but keeps what is held.
@@ -165,45 +155,12 @@ impl Keepers {
         self.hold = hold;
     }
 
-    /// How many bytes a message would release.
-    fn released(&self, bytes: &[u8]) -> usize {
-        let is_commit = bytes.len() >= 5 && bytes[0] == b'c';
-        if is_commit {
-            self.kept.of(word(bytes, 1)).len()
-        } else {
-            0
-        }
+    /// The same keepers with what is held at the front of another buffer.
+    pub fn moved_to(&self, buffer: &[u8]) -> Keepers {
+        let mut keepers = self.clone();
+        keepers.lend(Hold { buffer: laid(&self.model.kept.bytes(), buffer), held: self.hold.held });
+        keepers
     }
-}
-
-/// A Stream Commit or Stream Abort of something that is kept, or of an xid of the pool.
-fn end(rng: &mut Rng, kept: &Kept, pool: &Pool) -> Vec<u8> {
-    let xid = pool.xid(rng);
-    let xids: Vec<_> = kept.pieces.iter().filter_map(|piece| piece.xids).chain([(xid, xid)]).collect();
-    let (top, own) = rng.pick(&xids);
-    if rng.one_in(2) { stream_commit(top) } else { stream_abort(top, own) }.0
-}
-
-/// The next message: between blocks mostly one that starts a block or ends a transaction.
-fn next_streamed(rng: &mut Rng, keepers: &Keepers, pool: &Pool) -> Vec<u8> {
-    let history = &keepers.history;
-    let choice = if history.place() == Place::Idle { rng.below(8) } else { 7 };
-    match choice {
-        0..=2 => {
-            let xid = pool.xid(rng);
-            stream_start(xid, !history.is_open(xid.into())).0
-        }
-        3 | 4 => end(rng, &keepers.kept, pool),
-        _ => next(rng, history, pool),
-    }
-}
-
-/// An output of about this length: too short, exact or longer.
-fn output(rng: &mut Rng, exact: usize) -> Vec<u8> {
-    let longer = exact + rng.below(60) as usize;
-    let shorter = rng.below(exact as u64 + 1) as usize;
-    let length = rng.pick(&[0, shorter, exact.saturating_sub(1), exact, longer, longer]);
-    any_bytes(rng, length)
 }
 
 /// A sequence of messages. Now and then the buffer gets about as much room as the next message needs; and a message that got too little,
@@ -215,7 +172,7 @@ fn compare(rng: &mut Rng, version: u32, length: usize, tally: &mut Tally, deeds:
     let is_fitted = rng.one_in(2);
     deeds.start();
     for _ in 0..length {
-        let bytes = next_streamed(rng, &keepers, &pool);
+        let bytes = next_streamed(rng, &keepers.model, &pool);
         let tag = rng.any() >> rng.below(64);
         let needed = keepers.hold.held + 14 + bytes.len();
         if is_fitted && rng.one_in(3) {
@@ -223,13 +180,13 @@ fn compare(rng: &mut Rng, version: u32, length: usize, tally: &mut Tally, deeds:
             let room = rng.pick(&[0, needed - 1, needed, needed + 1, needed + more]);
             keepers.make_room(room);
         }
-        let out = output(rng, keepers.released(&bytes));
-        let number = keepers.give(&bytes, tag, &out, deeds);
+        let out = output(rng, keepers.model.released(&bytes));
+        let number = keepers.give(&bytes, tag, &out, deeds).number;
         tally.note(number);
         if matches!(number, Refusal::OUTPUT | Refusal::KEEPER) && rng.one_in(2) {
             keepers.make_room(needed.max(keepers.room()));
-            let out = any_bytes(rng, keepers.released(&bytes));
-            assert_eq!(keepers.give(&bytes, tag, &out, deeds), 0);
+            let out = any_bytes(rng, keepers.model.released(&bytes));
+            assert_eq!(keepers.give(&bytes, tag, &out, deeds).number, 0);
         }
     }
     keepers
@@ -242,8 +199,8 @@ fn sequences_with_a_keeper() {
     for _ in 0..5_000 {
         let version = if rng.one_in(30) { rng.pick(&[1, 3]) } else { 2 };
         let length = 20 + rng.below(150) as usize;
-        let Keepers { record, alone, keeper, kept, .. } = compare(&mut rng, version, length, &mut tally, &mut deeds);
-        assert_eq!(pieces_of(keeper.held_records()), kept.pieces);
+        let Keepers { record, alone, keeper, model, .. } = compare(&mut rng, version, length, &mut tally, &mut deeds);
+        assert_eq!(pieces_of(keeper.held_records()), model.kept.pieces);
         record.back();
         alone.back();
     }
@@ -275,8 +232,8 @@ fn records_of_every_length() {
         let streamed = |(xid, length)| [stream_start(xid, true), Draft(insert(xid, length)), Draft::new(b'E')];
         let ends = [stream_abort(7, 7), stream_commit(8), stream_commit(9)];
         for Draft(bytes) in announced(&mut rng).into_iter().chain(blocks.into_iter().flat_map(streamed)).chain(ends) {
-            let out = any_bytes(&mut rng, keepers.released(&bytes) + more);
-            assert_eq!(keepers.give(&bytes, 0, &out, &mut Deeds::new()), 0);
+            let out = any_bytes(&mut rng, keepers.model.released(&bytes) + more);
+            assert_eq!(keepers.give(&bytes, 0, &out, &mut Deeds::new()).number, 0);
         }
         assert_eq!(keepers.hold.held, 0);
     }
@@ -341,13 +298,13 @@ fn made_up_buffers() {
                 keepers.lend(hold);
             }
             let before = Kept::read(&keepers.hold.buffer, keepers.hold.held);
-            keepers.kept = before.clone();
+            keepers.model.kept = before.clone();
             assert!(pieces_of(keepers.keeper.held_records()).iter().eq(before.pieces.iter().filter(|piece| piece.xids.is_some())));
-            let bytes = next_streamed(&mut rng, &keepers, &pool);
-            let out = output(&mut rng, keepers.released(&bytes));
-            let number = keepers.give(&bytes, tag, &out, &mut Deeds::new());
+            let bytes = next_streamed(&mut rng, &keepers.model, &pool);
+            let out = output(&mut rng, keepers.model.released(&bytes));
+            let number = keepers.give(&bytes, tag, &out, &mut Deeds::new()).number;
             tally.note(number);
-            note_odd(&mut odd, &bytes, number, &before, &keepers.kept, keepers.room());
+            note_odd(&mut odd, &bytes, number, &before, &keepers.model.kept, keepers.room());
         }
     }
     tally.has_seen(&[0, 2, 3, 4, 5, 6, 7, 8, 9, 10, 13, 14], 10);
@@ -356,8 +313,8 @@ fn made_up_buffers() {
 
 /// The block that a message of a made-up session must have come in, by what it got and left.
 fn block_of(outcome: &Outcome, held: usize) -> Option<u32> {
-    let is_kept = outcome.number == 0 && outcome.hold.held > held;
-    match outcome.number {
+    let is_kept = outcome.got.number == 0 && outcome.hold.held > held;
+    match outcome.got.number {
         Refusal::KEEPER => Some(1),
         _ => is_kept.then(|| word(&outcome.hold.buffer, held + 2)),
     }
@@ -388,8 +345,8 @@ fn made_up_sessions_with_a_keeper() {
                 }
             }
             assert_eq!(outcome, outcome_of(answer, &released, &kept, &hold, &out));
-            assert!(outcome.number != 0 || record.value == alone.back());
-            tally.note(outcome.number);
+            assert!(outcome.got.number != 0 || record.value == alone.back());
+            tally.note(outcome.got.number);
         }
         record.back();
     }

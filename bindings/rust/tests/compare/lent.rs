@@ -3,6 +3,7 @@ use std::hint::black_box;
 
 pub const MARK: u64 = 0xA5A5_5A5A_A5A5_5A5A;
 
+#[derive(Clone)]
 #[repr(C)]
 pub struct Lent<T> {
     before: u64,

@@ -5,6 +5,7 @@ use crate::rng::Rng;
 
 /// What a sequence draws from: so many OIDs and xids; and how likely it is to end a transaction or block, to announce a relation and
 /// to close a stream.
+#[derive(Clone, Copy)]
 pub struct Pool {
     pub oids: u64,
     pub xids: u64,

@@ -20,14 +20,15 @@ pub fn give(record: &mut Lent<Record>, bytes: &[u8], tag: u64) -> (u32, [u64; 4]
 }
 
 /// One session three times: the library's record, the typed one, and the history.
-struct Sessions {
+#[derive(Clone)]
+pub struct Sessions {
     record: Lent<Record>,
     typed: Session,
     history: History,
 }
 
 impl Sessions {
-    fn start(version: Option<u32>) -> Sessions {
+    pub fn start(version: Option<u32>) -> Sessions {
         let mut record = Lent::of(Record::ZERO);
         let typed = match version {
             Some(version) => {
@@ -43,11 +44,15 @@ impl Sessions {
     }
 
     /// Gives each the message, which all answer alike.
-    fn give(&mut self, bytes: &[u8], tag: u64) -> u32 {
+    pub fn answer(&mut self, bytes: &[u8], tag: u64) -> (u32, [u64; 4]) {
         let expected = numbers_of(self.history.give(bytes, tag));
         assert_eq!(give(&mut self.record, bytes, tag), expected, "{bytes:02X?}");
         assert_eq!(typed_numbers(self.typed.give(bytes, tag)), expected);
-        expected.0
+        expected
+    }
+
+    fn give(&mut self, bytes: &[u8], tag: u64) -> u32 {
+        self.answer(bytes, tag).0
     }
 
     /// Ends the transaction or block that stands here.
