@@ -15,6 +15,7 @@ mod summary;
 mod text;
 mod time;
 mod told;
+mod turns;
 
 // The longest line, an Update of two tuples, has less than 20,000 bytes.
 const LINE: usize = 20_000;
@@ -76,9 +77,11 @@ fn tell_record(
                 session: after,
                 answer,
             } = tell_message(line, session, bytes, counts.index());
+            let before = session::place_of(session);
+            let counted = counts.with(before, answer, session::place_of(after), span.length);
             Progress {
                 session: after,
-                counts: counts.with(answer, span.length),
+                counts: counted,
                 goes_on: true,
             }
         }

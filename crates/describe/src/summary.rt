@@ -3,15 +3,19 @@ use crate::answers;
 use crate::records::HEAD;
 use crate::records::Record;
 use crate::text;
+use crate::turns::Turns;
 use session::Answer;
+use session::Place;
 
-// How many messages were given, were accepted, were refused with each number, or were too long; and the bytes of their records.
+// How many messages were given, were accepted, were refused with each number, or were too long; the bytes of their records; and the
+// blocks that may change places.
 pub struct Counts {
     pub given: u64,
     pub accepted: u64,
     pub long: u64,
     pub bytes: u64,
     pub refused: [u64; 14],
+    pub turns: Turns,
 }
 
 fn plus(a: u64, b: u64) -> u64 {
@@ -26,6 +30,7 @@ impl Counts {
             long: 0,
             bytes: 0,
             refused: [0; 14],
+            turns: Turns::none(),
         }
     }
 
@@ -41,11 +46,16 @@ impl Counts {
 
     pub fn with_long(mut self, size: usize) -> Counts {
         self.long = plus(self.long, 1);
+        let turns = self.turns;
+        self.turns = turns.broken();
         self.with_bytes(size)
     }
 
-    pub fn with(mut self, answer: Answer, size: usize) -> Counts {
+    // After a message that found the session at one place and left it at another.
+    pub fn with(mut self, before: Place, answer: Answer, after: Place, size: usize) -> Counts {
         self.given = plus(self.given, 1);
+        let turns = self.turns;
+        self.turns = turns.with(before, answer, after);
         match answer {
             Answer::Refused { number, offset: _ } => {
                 if number < 14 {
@@ -92,6 +102,20 @@ fn tell_counts(line: &mut [u8], counts: Counts) {
     tell_refusals(line, refused);
 }
 
+fn tell_turns(line: &mut [u8], turns: Turns) {
+    let pairs = turns.pairs();
+    if pairs == 0 {
+        return;
+    }
+    let at = text::put_count(line, 0, b"summary: ", pairs, b" pair");
+    let at = text::put(
+        line,
+        at,
+        b" of neighbouring blocks, of different xids and all accepted, may change places: every message gets the same",
+    );
+    text::write_line(line, at);
+}
+
 fn tell_whole(line: &mut [u8], bytes: u64) {
     let at = text::put_count(line, 0, b"summary: whole, ", bytes, b" byte");
     text::write_line(line, at);
@@ -106,6 +130,7 @@ fn tell_damage(line: &mut [u8], offset: u64, words: &[u8]) {
 // The summary, with how the trace ends behind the records that were counted.
 pub fn tell_end(line: &mut [u8], counts: Counts, end: Record) {
     tell_counts(line, counts);
+    tell_turns(line, counts.turns);
     match end {
         Record::BadMark => tell_damage(line, counts.bytes, b": bad mark"),
         Record::Cut => tell_damage(line, counts.bytes, b": cut record"),

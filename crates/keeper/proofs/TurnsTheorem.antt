@@ -121,7 +121,7 @@ pub turns : Turns
 unfolding gets
 turns start buffer buffer' e x y d before one two after b c p =
     let r = either-order (keeping room) (versionOf start) (from buffer) (from buffer') (is buffer refl) (is buffer' (sym e)) x y d before one two after b c
-        (same-taken room (gets start buffer before (one ++ two)) ∙ p) in
+    (same-taken room (gets start buffer before (one ++ two)) ∙ p) in
     record { earlier = r .0; first = r .1; second = r .2; later = r .3 }
   where
     room : ℕ

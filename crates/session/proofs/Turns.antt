@@ -214,9 +214,10 @@ module _ (W : Way) (v : Version) where
           let j = turn-same x nz h k g a c t u (W .accepted h e i ok) (along-fills x nz (R .entries) (entry e g ∷ k) after w) in
           let ok' = W .takes x k e i u (ap accepts (sym j) ∙ W .accepted h e i ok) (fits-along W x (R .entries) (entry e g ∷ k) after f) in
           let q' : hearsAt k i ≡ heard e = ap (λ (s : Place). hears v s (bytesOf g)) (sym p) ∙ q in
-          let r = R .again (entry e g ∷ k) (ap (placeAfter e) p) (at-after p a e g) (λ o. turn-stays x h g t .shared o ∙ c o ∙ sym (turn-stays x k g u .shared o)) w f in
-          (got-first h i l e q ok ∙ ap₂ (λ (s : W .Gets) (r : List (W .Gets)). s ∷ r) (W .same x h k e i t u ok ok' j) (r .0) ∙ sym (got-first k i l e q' ok'),
-            left-first k i l e q' ok' ∙ r .1);
+          let r = R .again (entry e g ∷ k) (ap (placeAfter e) p) (at-after p a e g) (λ o. turn-stays x h g t .shared o ∙ c o ∙ sym (turn-stays x k g u .shared o)) w f in (
+            got-first h i l e q ok ∙ ap₂ (λ (s : W .Gets) (r : List (W .Gets)). s ∷ r) (W .same x h k e i t u ok ok' j) (r .0) ∙ sym (got-first k i l e q' ok'),
+            left-first k i l e q' ok' ∙ r .1,
+          );
     }
       where
         g : Given

@@ -65,7 +65,7 @@ pub turns : Turns
 unfolding answersTo
 turns start x y d before one two after b c p =
     let r = either-order alone (versionOf start) answered answered is is x y d before one two after (rw (← map-same one) b) (rw (← map-same two) c)
-        (same-taken (answersTo start before (one ++ two)) ∙ p) in
+    (same-taken (answersTo start before (one ++ two)) ∙ p) in
     record { first = r .1; second = r .2; later = r .3 }
   where
     answered : List Given → List Answer
