@@ -141,9 +141,9 @@ uint32_t kq_session_give(kq_session *session, const uint8_t *bytes, size_t len, 
  * is shorter than what a Stream Commit releases. After any refusal session, buffer, *held and out are as they were: the caller may go
  * on, or give the message again with a longer buffer or out.
  * Any buffer and any *held are answered: held bytes that are no whole record are nobody's, and stay.
- * Two neighbouring blocks (Stream Start to Stream Stop) of different xids may be exchanged: if every message of both is accepted in both
- * orders, each of them and each message afterwards, given with the same tag and out and buffers of one length, gets the same reply and
- * leaves the same out. So it is with kq_session_give and its answers.
+ * Two neighbouring blocks (Stream Start to Stream Stop) of different xids may be exchanged: if every message of both is accepted, then it
+ * is in the other order too, and each of them and each message afterwards, given with the same tag and out and buffers of one length, gets
+ * the same reply and leaves the same out. So it is with kq_session_give and its answers.
  * This function is in an archive of its own, libcapi_keeper.a; all others are in libcapi.a. */
 #define KQ_REPLY 5
 uint32_t kq_keeper_give(kq_session *session, const uint8_t *bytes, size_t len, uint64_t tag, uint8_t *buffer, size_t buffer_len,

@@ -10,9 +10,9 @@ use std::fmt;
 ///
 /// A keeper has the room that it was given; [`Keeper::grow`] gives it more.
 ///
-/// Two neighbouring blocks (Stream Start to Stream Stop) of different xids may be exchanged: if every message of both is accepted in both
-/// orders, each of them and each message afterwards, given with the same tag, output and room, gets the same reply. Only what is
-/// [held](Keeper::held_records) stands in another order meanwhile.
+/// Two neighbouring blocks (Stream Start to Stream Stop) of different xids may be exchanged: if every message of both is accepted, then it
+/// is in the other order too, and each of them and each message afterwards, given with the same tag, output and room, gets the same reply.
+/// Only what is [held](Keeper::held_records) stands in another order meanwhile.
 ///
 /// ```
 /// use kitsoriqu::{Keeper, Record, Refusal, Session};

@@ -7,8 +7,8 @@ use std::fmt;
 ///
 /// It has room for 256 live announcements and 16 open streamed transactions, inline: about 5 KB, and it allocates nothing.
 ///
-/// Two neighbouring blocks (Stream Start to Stream Stop) of different xids may be exchanged: if every message of both is accepted in both
-/// orders, each of them and each message afterwards, given with the same tag, gets the same answer.
+/// Two neighbouring blocks (Stream Start to Stream Stop) of different xids may be exchanged: if every message of both is accepted, then it
+/// is in the other order too, and each of them and each message afterwards, given with the same tag, gets the same answer.
 ///
 /// ```
 /// use kitsoriqu::{Answer, Identity, Refusal, Session};

@@ -1,5 +1,5 @@
-//! Two neighbouring blocks of different transactions are exchanged. Where every message of both is accepted in both orders, each message
-//! of the whole list gets the same.
+//! Two neighbouring blocks of different transactions are exchanged. Where every message of both is accepted in one order, it is in the
+//! other, and each message of the whole list gets the same.
 use crate::deeds::Deeds;
 use crate::generate::Draft;
 use crate::keepers::{reply_of, Got, Keepers};
