@@ -13,7 +13,7 @@ use Rattle.session.specs.Rules.{rooms, judge, accepts, Heard, unread, heard, he
 use Rattle.session.specs.Machine.{startOf}
 use Rattle.session.proofs.Stays.{Turn}
 use Rattle.session.proofs.Turns.{Way, allTaken, next, getAll, either-order}
-use Rattle.keeper.specs.Rules.{Kept, doing, keptIn, releasedBy, recordsOf, sizes, laid, judgeKept, Call, call, answerTo, releasedTo, historyAfter, outcomes}
+use Rattle.keeper.specs.Rules.{Kept, keptIn, recordsOf, sizes, laid, Call, call, answerTo, releasedTo, historyAfter, outcomes}
 use Rattle.keeper.specs.Records.{hold}
 use Rattle.keeper.specs.Runs.{run}
 use Rattle.keeper.specs.Turns.{givenOf, Got, gotten, gets, allAccepted, Turns}

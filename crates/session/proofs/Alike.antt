@@ -15,7 +15,7 @@ use Rattle.session.specs.History.{Announced, isAnnounced, Given, entry, 
 use Rattle.session.specs.Rules.{rooms, sightOf, judge}
 use Rattle.session.proofs.Streams.{open-tally}
 use Rattle.session.proofs.Live.{live-tally}
-use Rattle.session.proofs.Sights.{Same, same-judged}
+use Rattle.session.proofs.Sights.{same-judged}
 
 -- all that the rules ask of one holder t is the same
 pub record AlikeAt (t : ℕ) (h k : History) : Type 0 where

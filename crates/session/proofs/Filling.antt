@@ -1,12 +1,11 @@
 -- In a block the rooms only fill, so where a message was accepted and the rooms hold out behind it, it is accepted from every history that is alike at x. Assumes nothing.
 use mathlib.Core.Path.{_≡_, refl, sym, _∙_, ap, ap₂, fun-ext}
 use mathlib.Core.List.{List, [], _∷_}
-use mathlib.Core.Bool.{Bool, true, false, cond, not, _||_, _&&_, true≢false, false≢true}
+use mathlib.Core.Bool.{Bool, true, false, cond, not, _||_, _&&_}
 use Prim.Native.Nat.{ℕ, suc, _+_, _≤_}
 use native.Mathlib.Omega.{arith}
 use lib.Dec.{eqb, leb}
-use lib.ListN.{length}
-use borrow.Author.Tests.{eqb-true, eq-eqb, lt-leb}
+use borrow.Author.Tests.{eqb-true, lt-leb}
 use Rattle.wire.specs.Lists.{tally, keep, distinct, Pair, pair, samePair}
 use Rattle.catalog.specs.Table.{is}
 use Rattle.catalog.proofs.Opens as open-law
@@ -16,11 +15,10 @@ use Rattle.catalog.proofs.Tables.{same-eq, same-refl}
 use Rattle.catalog.proofs.Counting.{bit, length-by-counts}
 use Rattle.session.specs.declared.Place.{Place}
 use Rattle.session.specs.declared.Place.the-variants.{Idle, Block}
-use Rattle.session.specs.declared.Answer.{Answer}
 use Rattle.session.specs.declared.Answer.the-variants as answer
 use Rattle.session.specs.Events.{Event, Origin, Relation, Change, Truncate, Neutral, Logical, StreamStart, StreamStop}
-use Rattle.session.specs.History.{Announced, isAnnounced, orElse, Given, entry, Entry, History, shown, place, holderAt, isOpen, started, openCount, isChanged, own, common, held, pairs, isLive, liveCount}
-use Rattle.session.specs.Rules.{rooms, sightOf, visible, test, ruleOrigin, ruleChange, ruleTruncate, ruleNeutral, ruleLogical, ruleStreamStop, judge, accepts}
+use Rattle.session.specs.History.{Announced, isAnnounced, orElse, Given, entry, Entry, History, shown, place, isOpen, started, openCount, common, held, pairs, isLive, liveCount}
+use Rattle.session.specs.Rules.{rooms, sightOf, visible, ruleOrigin, ruleChange, ruleTruncate, ruleNeutral, ruleLogical, ruleStreamStop, judge, accepts}
 use Rattle.session.specs.State.{State, sorted}
 use Rattle.session.proofs.Formed.{NonZero}
 use Rattle.session.proofs.Streams as Streams

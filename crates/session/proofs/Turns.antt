@@ -33,7 +33,7 @@ use Rattle.session.proofs.Agreement.{fresh, kept}
 use Rattle.session.proofs.Runs.{Well, hears-well, Agrees}
 use Rattle.session.proofs.Alike.{AlikeAt, at-sym, at-after}
 use Rattle.session.proofs.Stays as turn
-use Rattle.session.proofs.Stays.{Turn, inner, turn-open, turn-stays, onto, Along, turn-other, along-other, Blocks, second-before, second-idle, first-behind, stays-first, stays-second, either-alike}
+use Rattle.session.proofs.Stays.{Turn, inner, turn-open, turn-stays, onto, Along, turn-other, along-other, Blocks, second-idle, first-behind, stays-first, stays-second, either-alike}
 use Rattle.session.proofs.Filling.{Within, agreed-within, within-alike, along-fills, turn-same}
 
 -- A WAY OF JUDGING: what is given with a message, and what the message gets; whether that is acceptance; which histories this way cannot tell apart;

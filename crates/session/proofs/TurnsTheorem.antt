@@ -1,15 +1,14 @@
 -- ORDER OF TURNS (request 105), for a session alone: the statement is `Turns`, in specs.
-use mathlib.Core.Path.{_≡_, refl, sym, _∙_, ap, ap₂}
+use mathlib.Core.Path.{_≡_, refl, sym, _∙_, ap}
 use mathlib.Core.List.{List, [], _∷_, _++_, map}
-use mathlib.Core.Bool.{Bool, true, _&&_}
-use Prim.Native.Nat.{ℕ}
+use mathlib.Core.Bool.{Bool, _&&_}
 use Rattle.message.specs.declared.Version.{Version}
 use Rattle.session.specs.declared.Answer.{Answer}
 use Rattle.session.specs.History.{Given, given, History, place}
-use Rattle.session.specs.Rules.{rooms, accepts, Heard, unread, heard, hears, answerTo, historyAfter, answersBy, answers, Start, versionOf}
+use Rattle.session.specs.Rules.{rooms, accepts, Heard, unread, heard, hears, answerTo, historyAfter, answersBy, answers, versionOf}
 use Rattle.session.specs.Machine.{startOf}
 use Rattle.session.specs.Runs.{run}
-use Rattle.session.specs.Turns.{BlockOf, answersTo, allAccepted, Turns}
+use Rattle.session.specs.Turns.{answersTo, allAccepted, Turns}
 use Rattle.session.proofs.ListTheorem.{session-answers}
 use Rattle.session.proofs.Alike.{Alike, alike-after, alike-judged}
 use Rattle.session.proofs.Stays.{either-alike}
