@@ -95,17 +95,17 @@ module _ (W : Way) where
   fits-along x (entry e g ∷ es) h a f = W .fits-before x h e g (a .0) (fits-along x es (entry e g ∷ h) (a .1) f)
 
   -- some record agrees with it, and it fits
-  abbrev Held : History → Type 0
-  Held h = ((s : State) × Agrees s h) × W .Fits h
+  abbrev Reached : History → Type 0
+  Reached h = ((s : State) × Agrees s h) × W .Fits h
 
-  held-next : (h : History) (m : Heard) (i : W .Item) → Well (bytesOf (W .givenOf i)) m → Held h → Held (next h m i)
-  held-next h (unread n o) i f a = a
-  held-next h (heard e) i f a = go (W .taken (W .gets h (heard e) i)) refl
+  reached-next : (h : History) (m : Heard) (i : W .Item) → Well (bytesOf (W .givenOf i)) m → Reached h → Reached (next h m i)
+  reached-next h (unread n o) i f a = a
+  reached-next h (heard e) i f a = go (W .taken (W .gets h (heard e) i)) refl
     where
       g : Given
       g = W .givenOf i
 
-      go : (b : Bool) → W .taken (W .gets h (heard e) i) ≡ b → Held (cond b (entry e (W .givenOf i) ∷ h) h)
+      go : (b : Bool) → W .taken (W .gets h (heard e) i) ≡ b → Reached (cond b (entry e (W .givenOf i) ∷ h) h)
       go true ok = ((stateBy sorted (a .0 .0) e (tagOf g), kept sorted sorted-lawful (a .0 .0) h (a .0 .1) e g (f .0) (W .accepted h e i ok)), W .fits-after h e i ok (a .1))
       go false ok = a
 
@@ -138,10 +138,10 @@ module _ (W : Way) (v : Version) where
   get-length (i ∷ k) h = ap suc (get-length k (next W h (hearsAt h i) i))
 
   -- the rooms hold out, whatever the list
-  held-all : (l : List (W .Item)) (h : History) → Held W h → Held W (leave h l)
+  reached-all : (l : List (W .Item)) (h : History) → Reached W h → Reached W (leave h l)
   unfolding leave
-  held-all [] h a = a
-  held-all (i ∷ l) h a = held-all l (next W h (hearsAt h i) i) (held-next W h (hearsAt h i) i (hears-well v (place h) (bytesOf (W .givenOf i))) a)
+  reached-all [] h a = a
+  reached-all (i ∷ l) h a = reached-all l (next W h (hearsAt h i) i) (reached-next W h (hearsAt h i) i (hears-well v (place h) (bytesOf (W .givenOf i))) a)
 
   -- HISTORIES THAT ARE ALIKE
 
@@ -291,7 +291,7 @@ module _ (W : Way) (v : Version) where
 
   -- TWO BLOCKS CHANGE PLACES
   module _ (x y : ℕ) (d : x ≡ y → ⊥) (one two : List (W .Item)) (b : BlockOf v x (map (W .givenOf) one)) (c : BlockOf v y (map (W .givenOf) two)) (h : History)
-      (a1 : allTaken W (getAll h one) ≡ true) (a2 : allTaken W (getAll (leave h one) two) ≡ true) (held : Held W h) where
+      (a1 : allTaken W (getAll h one) ≡ true) (a2 : allTaken W (getAll (leave h one) two) ≡ true) (reached : Reached W h) where
     first : Block-turned x h one
     first = block-turned x one b h a1
 
@@ -324,14 +324,14 @@ module _ (W : Way) (v : Version) where
     like = W .like-blocks x y h f s blocks
 
     -- the rooms hold out behind both, so they do behind both in the other order, and behind the second alone
-    held-both : Held W (onto s (onto f h))
-    held-both = subst (Held W) after-both (held-all two (leave h one) (held-all one h held))
+    reached-both : Reached W (onto s (onto f h))
+    reached-both = subst (Reached W) after-both (reached-all two (leave h one) (reached-all one h reached))
 
     within : Within (onto f (onto s h))
-    within = within-alike (either-alike blocks) (agreed-within (held-both .0 .0) (onto s (onto f h)) (held-both .0 .1))
+    within = within-alike (either-alike blocks) (agreed-within (reached-both .0 .0) (onto s (onto f h)) (reached-both .0 .1))
 
     fits : W .Fits (onto f (onto s h))
-    fits = W .fits-like (onto s (onto f h)) (onto f (onto s h)) like (held-both .1)
+    fits = W .fits-like (onto s (onto f h)) (onto f (onto s h)) like (reached-both .1)
 
     second-again : (getAll (onto f h) two ≡ getAll h two) × (leave h two ≡ onto s h)
     second-again =
@@ -376,18 +376,18 @@ module _ (W : Way) (v : Version) where
       × (after run (before ++ (one ++ two)) later ≡ after run' (before ++ (two ++ one)) later)
   either-order run run' is is' x y d before one two later b c p = (
     from run is [] before ∙ sym (from run' is' [] before),
-    from run is before one ∙ first-same x y d one two b c h (i .0) (i .1) held ∙ sym (from-two run' is' before two one),
-    from-two run is before one two ∙ second-same x y d one two b c h (i .0) (i .1) held ∙ sym (from run' is' before two),
+    from run is before one ∙ first-same x y d one two b c h (i .0) (i .1) reached ∙ sym (from-two run' is' before two one),
+    from-two run is before one two ∙ second-same x y d one two b c h (i .0) (i .1) reached ∙ sym (from run' is' before two),
     from-two run is before (one ++ two) later ∙ ap (λ (k : History). getAll k later) (leave-append one two h)
-        ∙ later-same x y d one two b c h (i .0) (i .1) held later
+        ∙ later-same x y d one two b c h (i .0) (i .1) reached later
         ∙ sym (from-two run' is' before (two ++ one) later ∙ ap (λ (k : History). getAll k later) (leave-append two one h)),
   )
     where
       h : History
       h = leave [] before
 
-      held : Held W (leave [] before)
-      held = held-all before [] ((freshBy sorted, fresh sorted sorted-lawful), W .fits-none)
+      reached : Reached W (leave [] before)
+      reached = reached-all before [] ((freshBy sorted, fresh sorted sorted-lawful), W .fits-none)
 
       i : (allTaken W (getAll h one) ≡ true) × (allTaken W (getAll (leave h one) two) ≡ true)
       i = both-taken W (getAll h one) (getAll (leave h one) two) (ap (allTaken W) (sym (from run is before (one ++ two) ∙ get-append one two h)) ∙ p)
