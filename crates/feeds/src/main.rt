@@ -1,6 +1,7 @@
 // Gives feeds recorded from a PostgreSQL server, named by its arguments, each to a fresh session of the version in its name, and to one
 // with a keeper besides. Prints each refusal, what each Stream Commit released, how many bytes are still held in the end, and how many
-// messages were accepted. A feed is records of the mark C3 4D, a length of 32 bits and a message.
+// messages were accepted. A feed is records of the mark C3 4D, a length of 32 bits and a message. Behind a word `turns` stand two feeds whose
+// blocks are mixed, and exchanged: how often, and whether a message got something else then, is printed.
 ghost use Prim.Native.Nat.{_≤_, _<_};
 ghost use mathlib.Core.Path.{_≡_};
 ghost use lib.ListN.{length, take};

@@ -1,10 +1,15 @@
-// What messages got, each at its index.
+// What messages got, each at its index: in the recorded order, and from PRESENT on in the present one.
 use crate::blocks;
+use crate::blocks::MESSAGES;
 use crate::front;
 use crate::giving;
 use crate::giving::numbers;
 use keeper::Reply;
 use session::Answer;
+
+pub const PRESENT: usize = MESSAGES;
+
+pub const NOTES: usize = PRESENT + MESSAGES;
 
 fn wide(b: u8) -> u64 {
     b as u64
@@ -49,32 +54,30 @@ fn is_same(a: [u64; 7], b: [u64; 7]) -> bool {
 }
 
 // How many messages got something else.
-pub fn count_others(first: &[[u64; 7]], notes: &[[u64; 7]]) -> u64 {
+pub fn count_others(notes: &[[u64; 7]]) -> u64 {
     let mut n: u64 = 0;
     let mut i: usize = 0;
-    while i < notes.len() {
-        let same = is_same(at(first, i), at(notes, i));
+    while i < MESSAGES {
+        let same = is_same(at(notes, i), at(notes, PRESENT + i));
         n = std::num::wrapping_add_u64(n, !same as u64);
         i += 1;
     }
     n
 }
 
-// Whether no message of a block was refused.
-fn is_accepted(notes: &[[u64; 7]], firsts: &[usize], block: usize) -> bool {
-    let end = blocks::end_of(firsts, block);
-    let mut i = blocks::first_of(firsts, block);
-    while i < end {
-        let note = at(notes, i);
-        if note[0] == 2 {
-            return false;
-        }
-        i += 1;
-    }
-    true
+fn is_refused(note: [u64; 7]) -> bool {
+    note[0] == 2
 }
 
-// Whether no message of two blocks was refused.
-pub fn are_accepted(notes: &[[u64; 7]], firsts: &[usize], a: usize, b: usize) -> bool {
-    is_accepted(notes, firsts, a) && is_accepted(notes, firsts, b)
+// Whether no message of a block was refused in either order.
+pub fn is_accepted(notes: &[[u64; 7]], plan: &[usize], block: usize) -> bool {
+    let end = blocks::end_of(plan, block);
+    let mut good = true;
+    let mut i = blocks::first_of(plan, block);
+    while i < end {
+        let now = at(notes, std::num::wrapping_add_usize(PRESENT, i));
+        good = good && !is_refused(at(notes, i)) && !is_refused(now);
+        i += 1;
+    }
+    good
 }

@@ -4,7 +4,6 @@
 use crate::blocks;
 use crate::blocks::BLOCKS;
 use crate::blocks::Listed;
-use crate::blocks::MESSAGES;
 use crate::giving;
 use crate::giving::Both;
 use crate::giving::Counts;
@@ -40,6 +39,7 @@ fn sum(a: u64, b: u64) -> u64 {
     std::num::wrapping_add_u64(a, b)
 }
 
+// Gives a message, and notes what it gets, from an index of the notes on.
 fn give(
     both: Both,
     bytes: &[u8],
@@ -47,52 +47,53 @@ fn give(
     buffer: &mut [u8],
     out: &mut [u8],
     noted: &mut [[u64; 7]],
+    from: usize,
 ) -> Both {
     let Given {
         both: after,
         answer,
         reply,
     } = giving::step(both, bytes, index as u64, buffer, out);
-    notes::put(noted, index, notes::note_of(reply, out, answer));
+    let note = notes::note_of(reply, out, answer);
+    notes::put(noted, std::num::wrapping_add_usize(from, index), note);
     after
 }
 
 fn give_block(
     both: Both,
-    room: &[u8],
-    starts: &[usize],
-    firsts: &[usize],
     block: usize,
+    room: &[u8],
+    plan: &[usize],
     buffer: &mut [u8],
     out: &mut [u8],
     noted: &mut [[u64; 7]],
+    from: usize,
 ) -> Both {
-    let end = blocks::end_of(firsts, block);
+    let end = blocks::end_of(plan, block);
     let mut after = both;
-    let mut i = blocks::first_of(firsts, block);
+    let mut i = blocks::first_of(plan, block);
     while i < end {
-        let bytes = blocks::message_at(room, blocks::at(starts, i));
-        after = give(after, bytes, i, buffer, out, noted);
+        let bytes = blocks::message_at(room, plan, i);
+        after = give(after, bytes, i, buffer, out, noted, from);
         i += 1;
     }
     after
 }
 
-// Gives the blocks in this order, and then what is outside of blocks, to fresh sessions.
+// Gives the blocks in the plan's order, and then what is outside of blocks, to fresh sessions.
 fn run(
     room: &[u8],
-    starts: &[usize],
-    firsts: &[usize],
-    order: &[usize],
+    plan: &[usize],
     buffer: &mut [u8],
     out: &mut [u8],
     noted: &mut [[u64; 7]],
+    from: usize,
 ) -> Both {
     let mut both = giving::fresh(VERSION);
     let mut k: usize = 0;
     while k < BLOCKS {
-        let block = blocks::at(order, k);
-        both = give_block(both, room, starts, firsts, block, buffer, out, noted);
+        let block = blocks::block_at(plan, k);
+        both = give_block(both, block, room, plan, buffer, out, noted, from);
         k += 1;
     }
     both
@@ -122,59 +123,33 @@ fn counted(walk: Walk, turned: Turned) -> Walk {
     walk
 }
 
-// What came of the exchange of the blocks at `k` and behind it.
-fn judged(
-    k: usize,
-    room: &[u8],
-    starts: &[usize],
-    firsts: &[usize],
-    order: &[usize],
-    first: &[[u64; 7]],
-    noted: &[[u64; 7]],
-) -> Turned {
-    let a = blocks::at(order, k);
-    let b = blocks::at(order, blocks::next(k));
-    let is_one = blocks::is_one_xid(room, starts, firsts, a, b);
-    let was_good = notes::are_accepted(first, firsts, a, b);
-    let is_good = notes::are_accepted(noted, firsts, a, b);
+// What came of the exchange of two blocks, which are now numbers `k` and one more.
+fn judged(k: usize, room: &[u8], plan: &[usize], noted: &[[u64; 7]]) -> Turned {
+    let a = blocks::block_at(plan, k);
+    let b = blocks::block_at(plan, std::num::wrapping_add_usize(k, 1));
+    let is_one = blocks::is_one_xid(room, plan, a, b);
+    let is_good = notes::is_accepted(noted, plan, a) && notes::is_accepted(noted, plan, b);
     Turned {
         is_one,
-        stays: was_good && is_good && !is_one,
-        others: notes::count_others(first, noted),
+        stays: is_good && !is_one,
+        others: notes::count_others(noted),
     }
 }
 
-// The blocks at `k` and behind it change places, and all is given anew.
-fn run_exchanged(
-    k: usize,
-    room: &[u8],
-    starts: &[usize],
-    firsts: &[usize],
-    order: &mut [usize],
-    buffer: &mut [u8],
-    out: &mut [u8],
-    noted: &mut [[u64; 7]],
-) {
-    blocks::exchange(order, k);
-    run(room, starts, firsts, order, buffer, out, noted);
-}
-
-// The same, and they go back if they don't stay.
+// The blocks that are given as numbers `k` and one more change places, all is given anew, and they go back if they don't stay.
 fn turn(
     walk: Walk,
     k: usize,
     room: &[u8],
-    starts: &[usize],
-    firsts: &[usize],
-    order: &mut [usize],
+    plan: &mut [usize],
     buffer: &mut [u8],
     out: &mut [u8],
-    first: &[[u64; 7]],
     noted: &mut [[u64; 7]],
 ) -> Walk {
-    run_exchanged(k, room, starts, firsts, order, buffer, out, noted);
-    let turned = judged(k, room, starts, firsts, order, first, noted);
-    blocks::exchange_if(!turned.stays, order, k);
+    blocks::exchange(plan, k);
+    run(room, plan, buffer, out, noted, notes::PRESENT);
+    let turned = judged(k, room, plan, noted);
+    blocks::exchange_if(!turned.stays, plan, k);
     counted(walk, turned)
 }
 
@@ -204,12 +179,9 @@ fn turn_all(
     times: usize,
     pairs: usize,
     room: &[u8],
-    starts: &[usize],
-    firsts: &[usize],
-    order: &mut [usize],
+    plan: &mut [usize],
     buffer: &mut [u8],
     out: &mut [u8],
-    first: &[[u64; 7]],
     noted: &mut [[u64; 7]],
 ) -> Walk {
     let mut walk = Walk {
@@ -223,18 +195,7 @@ fn turn_all(
     while i < times {
         walk.number = next_number(walk.number);
         let k = pick(walk.number, pairs);
-        walk = turn(
-            walk,
-            k,
-            room,
-            starts,
-            firsts,
-            order,
-            buffer,
-            out,
-            first,
-            noted,
-        );
+        walk = turn(walk, k, room, plan, buffer, out, noted);
         i += 1;
     }
     walk
@@ -266,55 +227,27 @@ fn print_walk(walk: Walk) {
 fn run_all(
     listed: Listed,
     room: &[u8],
-    starts: &[usize],
-    firsts: &[usize],
-    order: &mut [usize],
+    plan: &mut [usize],
     buffer: &mut [u8],
     out: &mut [u8],
-    first: &mut [[u64; 7]],
     noted: &mut [[u64; 7]],
 ) {
-    let both = run(room, starts, firsts, order, buffer, out, first);
-    print_listed(listed, blocks::first_of(firsts, listed.blocks), both);
+    let both = run(room, plan, buffer, out, noted, 0);
+    print_listed(listed, blocks::first_of(plan, listed.blocks), both);
     let pairs = std::num::wrapping_sub_usize(listed.blocks, 1);
-    print_walk(turn_all(
-        times(listed),
-        pairs,
-        room,
-        starts,
-        firsts,
-        order,
-        buffer,
-        out,
-        first,
-        noted,
-    ));
+    print_walk(turn_all(times(listed), pairs, room, plan, buffer, out, noted));
 }
 
 fn start(
     room: &[u8],
-    starts: &mut [usize],
-    firsts: &mut [usize],
-    order: &mut [usize],
+    plan: &mut [usize],
     buffer: &mut [u8],
     out: &mut [u8],
-    first: &mut [[u64; 7]],
     noted: &mut [[u64; 7]],
 ) {
-    let listed = blocks::list(room, starts, firsts);
-    blocks::in_order(order);
+    let listed = blocks::list(room, plan);
     if blocks::is_all(listed) {
-        run_all(
-            listed,
-            room,
-            starts,
-            firsts,
-            order,
-            buffer,
-            out,
-            first,
-            noted,
-        );
+        run_all(listed, room, plan, buffer, out, noted);
     } else {
         print(b"too many messages\n");
     }
@@ -322,20 +255,8 @@ fn start(
 
 // Exchanges neighbouring blocks of the feeds in the room.
 pub fn take_turns(room: &[u8], buffer: &mut [u8], out: &mut [u8]) {
-    let mut starts = [0usize; MESSAGES];
-    let mut firsts = [0usize; BLOCKS];
-    let mut order = [0usize; BLOCKS];
+    let mut plan = [0usize; blocks::PLAN];
     let none = [0u64; 7];
-    let mut first = [none; MESSAGES];
-    let mut noted = [none; MESSAGES];
-    start(
-        room,
-        &mut starts,
-        &mut firsts,
-        &mut order,
-        buffer,
-        out,
-        &mut first,
-        &mut noted,
-    );
+    let mut noted = [none; notes::NOTES];
+    start(room, &mut plan, buffer, out, &mut noted);
 }

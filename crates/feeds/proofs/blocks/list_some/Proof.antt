@@ -7,10 +7,10 @@ use Rattle.feeds.proofs.blocks.list_some.Statement.{statement}
 use Rattle.feeds.proofs.blocks.list_some.Tie as tie
 
 abbrev Inv-loop : tie.InvT-loop
-Inv-loop room inside starts₀ firsts₀ sum₀ start₀ starts firsts sum start = (start ≤ length room) × (length starts ≡ length starts₀) × (length firsts ≡ length firsts₀)
+Inv-loop room inside plan₀ all₀ start₀ plan all start = (start ≤ length room) × (length plan ≡ length plan₀)
 
 abbrev μ-loop : tie.MeasureT-loop
-μ-loop room inside starts₀ firsts₀ sum₀ start₀ starts firsts sum start = length room - start
+μ-loop room inside plan₀ all₀ start₀ plan all start = length room - start
 
 loop-holds : tie.Need-loop-holds Inv-loop μ-loop
 loop-holds c = search needs
@@ -28,25 +28,19 @@ with-requires : tie.Need-with-requires Inv-loop μ-loop
 with-requires c κs = search needs
 
 loop-less : tie.Need-loop-less Inv-loop μ-loop
-loop-less c = let w = c .before .before .before .before .before .before .before .before .before .end-of .ensures (omega arith) in omega (arith, w .0, w .1)
+loop-less c = let w = c .before .before .before .before .before .before .end-of .ensures (omega arith) in omega (arith, w .0, w .1)
 
 loop-again : tie.Need-loop-again Inv-loop μ-loop
-loop-again c = let w = c .before .before .before .before .before .before .before .before .before .end-of .ensures (omega arith) in omega (arith, w .0, w .1)
+loop-again c = let w = c .before .before .before .before .before .before .end-of .ensures (omega arith) in omega (arith, w .0, w .1)
 
 same-length : tie.Need-same-length Inv-loop μ-loop
 same-length c = search needs
 
-same-length-2 : tie.Need-same-length-2 Inv-loop μ-loop
-same-length-2 c = search needs
-
 returns : tie.Need-returns Inv-loop μ-loop
 returns c = search needs
 
-same-length-3 : tie.Need-same-length-3 Inv-loop μ-loop
-same-length-3 c = search needs
-
-same-length-4 : tie.Need-same-length-4 Inv-loop μ-loop
-same-length-4 c = search needs
+same-length-2 : tie.Need-same-length-2 Inv-loop μ-loop
+same-length-2 c = search needs
 
 returns-2 : tie.Need-returns-2 Inv-loop μ-loop
 returns-2 c = search needs
@@ -65,8 +59,6 @@ list-some-spec =
     loop-less
     loop-again
     same-length
-    same-length-2
     returns
-    same-length-3
-    same-length-4
+    same-length-2
     returns-2)

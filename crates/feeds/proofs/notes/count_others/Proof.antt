@@ -1,20 +1,22 @@
 use Prim.Native.Nat.{_≤_, _-_}
 use borrow.Author.Needs.{needs}
-use lib.ListN.{length}
 use Rattle.feeds.proofs.notes.count_others.Statement.{statement}
 use Rattle.feeds.proofs.notes.count_others.Tie as tie
 
 abbrev Inv-loop : tie.InvT-loop
-Inv-loop first notes n₀ i₀ n i = i ≤ length notes
+Inv-loop notes n₀ i₀ n i = i ≤ 2048
 
 abbrev μ-loop : tie.MeasureT-loop
-μ-loop first notes n₀ i₀ n i = length notes - i
+μ-loop notes n₀ i₀ n i = 2048 - i
 
 loop-holds : tie.Need-loop-holds Inv-loop μ-loop
 loop-holds c = search needs
 
 at-requires : tie.Need-at-requires Inv-loop μ-loop
 at-requires c κs = search needs
+
+add-at : tie.Need-add-at Inv-loop μ-loop
+add-at c = search needs
 
 at-requires-2 : tie.Need-at-requires-2 Inv-loop μ-loop
 at-requires-2 c κs = search needs
@@ -48,6 +50,7 @@ count-others-spec =
     μ-loop
     loop-holds
     at-requires
+    add-at
     at-requires-2
     is-same-requires
     cast-wrapping-add-u64

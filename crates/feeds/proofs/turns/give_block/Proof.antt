@@ -6,10 +6,10 @@ use Rattle.feeds.proofs.turns.give_block.Statement.{statement}
 use Rattle.feeds.proofs.turns.give_block.Tie as tie
 
 abbrev Inv-loop : tie.InvT-loop
-Inv-loop room starts firsts block buffer₀ out₀ noted₀ end after₀ i₀ buffer out noted after i = (length buffer ≡ length buffer₀) × (length out ≡ length out₀) × (length noted ≡ length noted₀)
+Inv-loop block room plan buffer₀ out₀ noted₀ from end after₀ i₀ buffer out noted after i = (length buffer ≡ length buffer₀) × (length out ≡ length out₀) × (length noted ≡ length noted₀)
 
 abbrev μ-loop : tie.MeasureT-loop
-μ-loop room starts firsts block buffer₀ out₀ noted₀ end after₀ i₀ buffer out noted after i = end - i
+μ-loop block room plan buffer₀ out₀ noted₀ from end after₀ i₀ buffer out noted after i = end - i
 
 end-of-requires : tie.Need-end-of-requires Inv-loop μ-loop
 end-of-requires c κs = search needs
@@ -19,9 +19,6 @@ first-of-requires c κs = search needs
 
 loop-holds : tie.Need-loop-holds Inv-loop μ-loop
 loop-holds c = search needs
-
-at-requires : tie.Need-at-requires Inv-loop μ-loop
-at-requires c κs = search needs
 
 message-at-requires : tie.Need-message-at-requires Inv-loop μ-loop
 message-at-requires c κs = search needs
@@ -59,7 +56,6 @@ give-block-spec =
     end-of-requires
     first-of-requires
     loop-holds
-    at-requires
     message-at-requires
     give-requires
     add-i

@@ -6,10 +6,10 @@ use Rattle.feeds.proofs.turns.run.Statement.{statement}
 use Rattle.feeds.proofs.turns.run.Tie as tie
 
 abbrev Inv-loop : tie.InvT-loop
-Inv-loop room starts firsts order buffer₀ out₀ noted₀ both₀ k₀ buffer out noted both k = (k ≤ 64) × (length buffer ≡ length buffer₀) × (length out ≡ length out₀) × (length noted ≡ length noted₀)
+Inv-loop room plan buffer₀ out₀ noted₀ from both₀ k₀ buffer out noted both k = (k ≤ 64) × (length buffer ≡ length buffer₀) × (length out ≡ length out₀) × (length noted ≡ length noted₀)
 
 abbrev μ-loop : tie.MeasureT-loop
-μ-loop room starts firsts order buffer₀ out₀ noted₀ both₀ k₀ buffer out noted both k = 64 - k
+μ-loop room plan buffer₀ out₀ noted₀ from both₀ k₀ buffer out noted both k = 64 - k
 
 fresh-requires : tie.Need-fresh-requires Inv-loop μ-loop
 fresh-requires c κs = search needs
@@ -17,8 +17,8 @@ fresh-requires c κs = search needs
 loop-holds : tie.Need-loop-holds Inv-loop μ-loop
 loop-holds c = search needs
 
-at-requires : tie.Need-at-requires Inv-loop μ-loop
-at-requires c κs = search needs
+block-at-requires : tie.Need-block-at-requires Inv-loop μ-loop
+block-at-requires c κs = search needs
 
 give-block-requires : tie.Need-give-block-requires Inv-loop μ-loop
 give-block-requires c κs = search needs
@@ -52,7 +52,7 @@ run-spec =
     μ-loop
     fresh-requires
     loop-holds
-    at-requires
+    block-at-requires
     give-block-requires
     add-k
     loop-less

@@ -6,10 +6,10 @@ use Rattle.feeds.proofs.turns.turn_all.Statement.{statement}
 use Rattle.feeds.proofs.turns.turn_all.Tie as tie
 
 abbrev Inv-loop : tie.InvT-loop
-Inv-loop times pairs room starts firsts order₀ buffer₀ out₀ first noted₀ walk₀ i₀ order buffer out noted walk i = (i ≤ times) × (length order ≡ length order₀) × (length buffer ≡ length buffer₀) × (length out ≡ length out₀) × (length noted ≡ length noted₀)
+Inv-loop times pairs room plan₀ buffer₀ out₀ noted₀ walk₀ i₀ plan buffer out noted walk i = (i ≤ times) × (length plan ≡ length plan₀) × (length buffer ≡ length buffer₀) × (length out ≡ length out₀) × (length noted ≡ length noted₀)
 
 abbrev μ-loop : tie.MeasureT-loop
-μ-loop times pairs room starts firsts order₀ buffer₀ out₀ first noted₀ walk₀ i₀ order buffer out noted walk i = times - i
+μ-loop times pairs room plan₀ buffer₀ out₀ noted₀ walk₀ i₀ plan buffer out noted walk i = times - i
 
 loop-holds : tie.Need-loop-holds Inv-loop μ-loop
 loop-holds c = search needs

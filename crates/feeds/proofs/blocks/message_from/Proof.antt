@@ -1,7 +1,7 @@
 use native.Mathlib.Omega.{arith}
 use borrow.Author.Needs.{needs}
-use Rattle.feeds.proofs.blocks.message_at.Statement.{statement}
-use Rattle.feeds.proofs.blocks.message_at.Tie as tie
+use Rattle.feeds.proofs.blocks.message_from.Statement.{statement}
+use Rattle.feeds.proofs.blocks.message_from.Tie as tie
 
 sub-result : tie.Need-sub-result
 sub-result c = search needs
@@ -45,8 +45,8 @@ part-result-end-3 c = let w = c .before .end-of .ensures (omega arith) in omega 
 returns-3 : tie.Need-returns-3
 returns-3 c = search needs
 
-pub message-at-spec : {M : Type 1} → statement M
-message-at-spec =
+pub message-from-spec : {M : Type 1} → statement M
+message-from-spec =
     tie.close
     (tie.spec
     sub-result

@@ -1,24 +1,24 @@
-use Prim.Native.Nat.{_-_}
+use Prim.Native.Nat.{_≤_, _-_}
 use borrow.Author.Needs.{needs}
 use mathlib.Core.Path.{_≡_}
 use lib.ListN.{length}
-use Rattle.feeds.proofs.blocks.in_order.Statement.{statement}
-use Rattle.feeds.proofs.blocks.in_order.Tie as tie
+use Rattle.feeds.proofs.blocks.put_in_order.Statement.{statement}
+use Rattle.feeds.proofs.blocks.put_in_order.Tie as tie
 
 abbrev Inv-loop : tie.InvT-loop
-Inv-loop order₀ k₀ order k = length order ≡ length order₀
+Inv-loop plan₀ k₀ plan k = (k ≤ 64) × (length plan ≡ length plan₀)
 
 abbrev μ-loop : tie.MeasureT-loop
-μ-loop order₀ k₀ order k = length order₀ - k
+μ-loop plan₀ k₀ plan k = 64 - k
 
 loop-holds : tie.Need-loop-holds Inv-loop μ-loop
 loop-holds c = search needs
 
-mul-order : tie.Need-mul-order Inv-loop μ-loop
-mul-order c = search needs
+add-put : tie.Need-add-put Inv-loop μ-loop
+add-put c = search needs
 
-slice-write-order : tie.Need-slice-write-order Inv-loop μ-loop
-slice-write-order c = search needs
+put-requires : tie.Need-put-requires Inv-loop μ-loop
+put-requires c κs = search needs
 
 add-k : tie.Need-add-k Inv-loop μ-loop
 add-k c = search needs
@@ -35,15 +35,15 @@ same-length c = search needs
 returns : tie.Need-returns Inv-loop μ-loop
 returns c = search needs
 
-pub in-order-spec : {M : Type 1} → statement M
-in-order-spec =
+pub put-in-order-spec : {M : Type 1} → statement M
+put-in-order-spec =
     tie.close
     (tie.spec
     Inv-loop
     μ-loop
     loop-holds
-    mul-order
-    slice-write-order
+    add-put
+    put-requires
     add-k
     loop-less
     loop-again
