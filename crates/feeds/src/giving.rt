@@ -8,7 +8,7 @@ use session::Answer;
 use session::Session;
 
 // The mark and the length before a message of a feed.
-const HEAD: usize = 6;
+pub const HEAD: usize = 6;
 
 pub struct Counts {
     pub given: u64,
@@ -17,17 +17,23 @@ pub struct Counts {
 }
 
 // A session, one with a keeper that has room for all, how many bytes that holds, and how many messages were accepted.
-struct Both {
-    alone: Session,
-    keeping: Session,
-    held: usize,
-    accepted: u64,
+pub struct Both {
+    pub alone: Session,
+    pub keeping: Session,
+    pub held: usize,
+    pub accepted: u64,
 }
 
-// Prints a refusal; 1 where the message was accepted.
-fn note(index: u64, answer: Answer) -> u64 {
+// Both after a message, its answer from the session, and what it got from the one with a keeper.
+pub struct Given {
+    pub both: Both,
+    pub answer: Answer,
+    pub reply: Reply,
+}
+
+fn note(index: u64, answer: Answer) {
     match answer {
-        Answer::Accepted | Answer::Change { .. } => 1,
+        Answer::Accepted | Answer::Change { .. } => {}
         Answer::Refused { number, offset } => {
             print_number(index);
             print(b": ");
@@ -35,13 +41,12 @@ fn note(index: u64, answer: Answer) -> u64 {
             print(b" at ");
             print_number(offset as u64);
             print(b"\n");
-            0
         }
     }
 }
 
 // An answer as numbers: which it is, and what it has.
-fn numbers(answer: Answer) -> [u64; 4] {
+pub fn numbers(answer: Answer) -> [u64; 4] {
     match answer {
         Answer::Accepted => [0, 0, 0, 0],
         Answer::Change {
@@ -53,7 +58,7 @@ fn numbers(answer: Answer) -> [u64; 4] {
     }
 }
 
-fn is_same(a: Answer, b: Answer) -> bool {
+pub fn is_same(a: Answer, b: Answer) -> bool {
     let x = numbers(a);
     let y = numbers(b);
     x[0] == y[0] && x[1] == y[1] && x[2] == y[2] && x[3] == y[3]
@@ -90,7 +95,17 @@ fn note_reply(index: u64, bytes: &[u8], answer: Answer, reply: Reply, out: &[u8]
     }
 }
 
-fn give(both: Both, bytes: &[u8], index: u64, buffer: &mut [u8], out: &mut [u8]) -> Both {
+pub fn fresh(version: u32) -> Both {
+    Both {
+        alone: session::start(version),
+        keeping: session::start(version),
+        held: 0,
+        accepted: 0,
+    }
+}
+
+// Gives both a message.
+pub fn step(both: Both, bytes: &[u8], index: u64, buffer: &mut [u8], out: &mut [u8]) -> Given {
     let Both {
         alone,
         keeping,
@@ -106,24 +121,34 @@ fn give(both: Both, bytes: &[u8], index: u64, buffer: &mut [u8], out: &mut [u8])
         reply,
         held: holds,
     } = keeper::step(keeping, bytes, index, buffer, held, out);
-    note_reply(index, bytes, answer, reply, out);
-    let one = note(index, answer);
-    Both {
+    let after = Both {
         alone: alone_after,
         keeping: keeping_after,
         held: holds,
-        accepted: std::num::wrapping_add_u64(accepted, one),
+        accepted: std::num::wrapping_add_u64(accepted, session::accepted(answer) as u64),
+    };
+    Given {
+        both: after,
+        answer,
+        reply,
     }
+}
+
+// Gives both a message, and prints what it got.
+fn give(both: Both, bytes: &[u8], index: u64, buffer: &mut [u8], out: &mut [u8]) -> Both {
+    let Given {
+        both: after,
+        answer,
+        reply,
+    } = step(both, bytes, index, buffer, out);
+    note_reply(index, bytes, answer, reply, out);
+    note(index, answer);
+    after
 }
 
 // Gives every message of a feed to fresh sessions.
 pub fn give_all(version: u32, trace: &[u8], buffer: &mut [u8], out: &mut [u8]) -> Counts {
-    let mut both = Both {
-        alone: session::start(version),
-        keeping: session::start(version),
-        held: 0,
-        accepted: 0,
-    };
+    let mut both = fresh(version);
     let mut given: u64 = 0;
     let mut at: usize = 0;
     while at < trace.len() {

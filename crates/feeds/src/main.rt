@@ -1,14 +1,18 @@
 // Gives feeds recorded from a PostgreSQL server, named by its arguments, each to a fresh session of the version in its name, and to one
 // with a keeper besides. Prints each refusal, what each Stream Commit released, how many bytes are still held in the end, and how many
-// messages were accepted. A feed is records of the mark C3 4D, a length of 32 bits and a message.
-ghost use Prim.Native.Nat.{_≤_};
+// messages were accepted. A feed is records of the mark C3 4D, a length of 32 bits and a message. Behind a word `turns` stand two feeds whose
+// blocks are mixed, and exchanged: how often, and whether a message got something else then, is printed.
+ghost use Prim.Native.Nat.{_≤_, _<_};
 ghost use mathlib.Core.Path.{_≡_};
 ghost use lib.ListN.{length, take};
 use giving::Counts;
 use libc::STDOUT_FILENO;
 
+mod blocks;
 mod giving;
+mod notes;
 mod records;
+mod turns;
 
 const ROOM: usize = 524_288;
 
@@ -80,17 +84,23 @@ fn print_counts(counts: Counts) {
     print(b" accepted\n");
 }
 
+// Reads a feed into the room: how many bytes it has.
+fn read_feed(name: &[u8], room: &mut [u8]) -> usize {
+    let file = os::open_read(name);
+    if file < 0 {
+        os::fail(name);
+        return 0;
+    }
+    let n = read_all(file, room);
+    libc::close(file);
+    n
+}
+
 // A feed is read into the room; the buffer is the keeper's, and the output is for what it releases.
 fn run_feed(name: &[u8], room: &mut [u8], buffer: &mut [u8], out: &mut [u8]) {
     print(name);
     print(b"\n");
-    let file = os::open_read(name);
-    if file < 0 {
-        os::fail(name);
-        return;
-    }
-    let n = read_all(file, room);
-    libc::close(file);
+    let n = read_feed(name, room);
     print_counts(giving::give_all(version_of(name), front(room, n), buffer, out));
 }
 
@@ -102,11 +112,56 @@ fn run_argument(k: usize, room: &mut [u8], buffer: &mut [u8], out: &mut [u8]) {
     }
 }
 
+// Reads the feed that an argument names into the room, from an offset on: where it ends.
+fn read_argument(k: usize, room: &mut [u8], from: usize) -> usize {
+    let mut name = [0u8; 256];
+    let n = os::arg(k, &mut name);
+    if 256 < n {
+        return from;
+    }
+    if room.len() < from {
+        return from;
+    }
+    print(b" ");
+    print(&name[..n]);
+    let size = read_feed(&name[..n], &mut room[from..]);
+    std::num::wrapping_add_usize(from, size)
+}
+
+// The feeds that two arguments name are mixed, and their blocks take turns.
+fn run_turns(k: usize, room: &mut [u8], buffer: &mut [u8], out: &mut [u8]) {
+    print(b"turns of");
+    let half = read_argument(k, room, 0);
+    let end = read_argument(std::num::wrapping_add_usize(k, 1), room, half);
+    print(b"\n");
+    turns::take_turns(front(room, end), buffer, out);
+}
+
+fn is_turns(k: usize) -> bool {
+    let mut word = [0u8; 256];
+    let n = os::arg(k, &mut word);
+    n <= 256 && check::same(front(&word, n), b"turns")
+}
+
+// Runs what begins with an argument, of which so many are left: how many that took.
+fn run_some(k: usize, left: usize, room: &mut [u8], buffer: &mut [u8], out: &mut [u8]) -> usize
+    requires { ⌜ 0 < left ⌝ }
+    ensures { λ r. ⌜ (0 < r) × (r ≤ left) ⌝ }
+{
+    if 2 < left {
+        if is_turns(k) {
+            run_turns(std::num::wrapping_add_usize(k, 1), room, buffer, out);
+            return 3;
+        }
+    }
+    run_argument(k, room, buffer, out);
+    1
+}
+
 fn run_arguments(count: usize, room: &mut [u8], buffer: &mut [u8], out: &mut [u8]) {
     let mut k: usize = 1;
     while k < count {
-        run_argument(k, room, buffer, out);
-        k += 1;
+        k += run_some(k, count - k, room, buffer, out);
     }
 }
 

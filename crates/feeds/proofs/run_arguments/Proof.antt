@@ -1,6 +1,6 @@
 use Prim.Native.Nat.{_-_}
+use borrow.Author.Needs.{needs}
 use mathlib.Core.Path.{_≡_}
-use native.Mathlib.Omega.{arith}
 use lib.ListN.{length}
 use Rattle.feeds.proofs.run_arguments.Statement.{statement}
 use Rattle.feeds.proofs.run_arguments.Tie as tie
@@ -12,31 +12,34 @@ abbrev μ-loop : tie.MeasureT-loop
 μ-loop count room₀ buffer₀ out₀ k₀ room buffer out k = count - k
 
 loop-holds : tie.Need-loop-holds Inv-loop μ-loop
-loop-holds c = omega arith
+loop-holds c = search needs
 
-run-argument-requires : tie.Need-run-argument-requires Inv-loop μ-loop
-run-argument-requires c κs = tt
+sub-run-some : tie.Need-sub-run-some Inv-loop μ-loop
+sub-run-some c = search needs
+
+run-some-requires : tie.Need-run-some-requires Inv-loop μ-loop
+run-some-requires c κs = search needs
 
 add-k : tie.Need-add-k Inv-loop μ-loop
-add-k c = omega arith
+add-k c = search needs
 
 loop-less : tie.Need-loop-less Inv-loop μ-loop
-loop-less c = omega arith
+loop-less c = search needs
 
 loop-again : tie.Need-loop-again Inv-loop μ-loop
-loop-again c = omega arith
+loop-again c = search needs
 
 same-length : tie.Need-same-length Inv-loop μ-loop
-same-length c = omega arith
+same-length c = search needs
 
 same-length-2 : tie.Need-same-length-2 Inv-loop μ-loop
-same-length-2 c = omega arith
+same-length-2 c = search needs
 
 same-length-3 : tie.Need-same-length-3 Inv-loop μ-loop
-same-length-3 c = omega arith
+same-length-3 c = search needs
 
 returns : tie.Need-returns Inv-loop μ-loop
-returns c = tt
+returns c = search needs
 
 pub run-arguments-spec : {M : Type 1} → statement M
 run-arguments-spec =
@@ -45,7 +48,8 @@ run-arguments-spec =
     Inv-loop
     μ-loop
     loop-holds
-    run-argument-requires
+    sub-run-some
+    run-some-requires
     add-k
     loop-less
     loop-again

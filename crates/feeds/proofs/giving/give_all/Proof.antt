@@ -12,11 +12,8 @@ Inv-loop version trace buffer₀ out₀ both₀ given₀ at₀ text buffer out b
 abbrev μ-loop : tie.MeasureT-loop
 μ-loop version trace buffer₀ out₀ both₀ given₀ at₀ text buffer out both given at = length trace - at
 
-start-requires : tie.Need-start-requires Inv-loop μ-loop
-start-requires c κs = tt
-
-start-requires-2 : tie.Need-start-requires-2 Inv-loop μ-loop
-start-requires-2 c κs = tt
+fresh-requires : tie.Need-fresh-requires Inv-loop μ-loop
+fresh-requires c κs = tt
 
 loop-holds : tie.Need-loop-holds Inv-loop μ-loop
 loop-holds c = omega arith
@@ -78,8 +75,7 @@ give-all-spec =
     (tie.spec
     Inv-loop
     μ-loop
-    start-requires
-    start-requires-2
+    fresh-requires
     loop-holds
     end-of-requires
     slice-aggregate-print
