@@ -31,6 +31,7 @@ pub struct Given {
     pub reply: Reply,
 }
 
+// Prints a refusal.
 fn note(index: u64, answer: Answer) {
     match answer {
         Answer::Accepted | Answer::Change { .. } => {}
