@@ -26,7 +26,7 @@ pub record Got : Type 0 where
 abbrev pub gotten : Outcome → Got
 gotten o = record { answer = o .answer; released = o .released; output = o .output }
 
--- what messages get from a fresh session, with a keeper that held nothing in a buffer, that was given others before them
+-- what messages get from a fresh session with an empty keeper that was given others before them
 unfoldable pub gets : Start → List ℕ → List Call → List Call → List Got
 gets start buffer before l = drop (length before) (map gotten (run (startOf start) (hold buffer 0) (before ++ l)))
 
