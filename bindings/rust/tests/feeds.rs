@@ -1,6 +1,6 @@
 //! The recorded feeds of `crates/feeds`, each given to a fresh session and to one with a keeper: the answers are those that its program
-//! prints. What is released of the streamed ones follows from the list of messages.
-use kitsoriqu::{read, write, Decoded, Keeper, Message, Record, Refusal, Reply, Session};
+//! prints. What is released of the streamed ones follows from the list of messages. Their blocks are exchanged as that program does it.
+use kitsoriqu::{read, write, Answer, Decoded, Keeper, Message, Record, Refusal, Reply, Session};
 use std::fmt::Write;
 use std::fs;
 use std::path::Path;
@@ -78,19 +78,116 @@ fn trace_of(name: &str) -> Vec<u8> {
     fs::read(Path::new(FEEDS).join("data").join(name)).unwrap()
 }
 
+/// The lines of a feed.
+fn feed(name: &str) -> String {
+    let bytes = trace_of(name);
+    let messages = trace::messages(&bytes).unwrap();
+    let version = trace::version(name).unwrap();
+    back(version, &messages);
+    format!("{name}\n{}", answers(version, &messages))
+}
+
 #[test]
 fn recorded_feeds() {
-    let names = fs::read_to_string(Path::new(FEEDS).join("args")).unwrap();
+    let args = fs::read_to_string(Path::new(FEEDS).join("args")).unwrap();
+    let mut words = args.lines();
     let mut printed = String::new();
-    for name in names.lines() {
-        let bytes = trace_of(name);
-        let messages = trace::messages(&bytes).unwrap();
-        let version = trace::version(name).unwrap();
-        back(version, &messages);
-        writeln!(printed, "{name}").unwrap();
-        printed += &answers(version, &messages);
+    while let Some(word) = words.next() {
+        printed += &match word {
+            "turns" => turns([(); 2].map(|()| words.next().unwrap())),
+            name => feed(name),
+        };
     }
     assert_eq!(printed, fs::read_to_string(Path::new(FEEDS).join("stdout")).unwrap());
+}
+
+/// What a message gets: its answer, and the bytes that it releases.
+type Got = Result<(Answer, Vec<u8>), Refusal>;
+
+/// Messages in parts, each message with its index in all: block after block, and behind them those outside of blocks.
+struct Mix<'a> {
+    messages: Vec<&'a [u8]>,
+    parts: Vec<Vec<(usize, &'a [u8])>>,
+}
+
+impl<'a> Mix<'a> {
+    fn of(messages: Vec<&'a [u8]>) -> Mix<'a> {
+        let (mut parts, mut others, mut in_block) = (vec![], vec![], false);
+        for &message in &messages {
+            if message[0] == b'S' {
+                parts.push(vec![]);
+                in_block = true;
+            }
+            parts.last_mut().filter(|_| in_block).unwrap_or(&mut others).push(message);
+            in_block &= message[0] != b'E';
+        }
+        parts.push(others);
+        let mut index = 0..;
+        Mix {
+            parts: parts.into_iter().map(|part| part.into_iter().map(|message| (index.next().unwrap(), message)).collect()).collect(),
+            messages,
+        }
+    }
+
+    /// What each message gets, where the parts are given in this order.
+    fn give(&self, order: &[usize]) -> Vec<Got> {
+        let mut both = Both::start(2, &self.messages);
+        let mut got: Vec<Got> = self.messages.iter().map(|_| Ok((Answer::Accepted, vec![]))).collect();
+        for &(index, bytes) in order.iter().flat_map(|&part| &self.parts[part]) {
+            got[index] = both.give(bytes, index as u64).map(|reply| (reply.answer, reply.released.as_bytes().to_vec()));
+        }
+        got
+    }
+
+    fn xid(&self, block: usize) -> u32 {
+        word(self.parts[block][0].1, 1)
+    }
+
+    fn is_accepted(&self, block: usize, got: &[Got]) -> bool {
+        self.parts[block].iter().all(|&(index, _)| got[index].is_ok())
+    }
+
+    /// Exchanges neighbouring blocks, by the numbers of a generator. Those of different transactions whose messages are accepted stay so.
+    fn walk(&self) -> String {
+        let mut order: Vec<_> = (0..self.parts.len()).collect();
+        let first = self.give(&order);
+        let [mut exchanges, mut others, mut tries, mut differences] = [0; 4];
+        let mut number = 1;
+        for _ in 0..1_000_000 / self.messages.len() {
+            number = number * 48_271 % 2_147_483_647;
+            let k = number % (self.parts.len() - 2);
+            order.swap(k, k + 1);
+            let now = self.give(&order);
+            let other = now.iter().zip(&first).filter(|(a, b)| a != b).count();
+            let (a, b) = (order[k], order[k + 1]);
+            if self.xid(a) == self.xid(b) {
+                tries += 1;
+                differences += usize::from(other != 0);
+                order.swap(k, k + 1);
+            } else if [a, b].iter().all(|&block| self.is_accepted(block, &first) && self.is_accepted(block, &now)) {
+                exchanges += 1;
+                others += other;
+            } else {
+                order.swap(k, k + 1);
+            }
+        }
+        format!(
+            "{exchanges} exchanges of blocks of different transactions: {others} messages got something else\n\
+             {tries} exchanges of blocks of one transaction: {differences} made a difference\n"
+        )
+    }
+}
+
+/// The lines of two feeds whose blocks take turns.
+fn turns(names: [&str; 2]) -> String {
+    let traces = names.map(trace_of);
+    let mix = Mix::of(traces.iter().flat_map(|bytes| trace::messages(bytes).unwrap()).collect());
+    let order: Vec<_> = (0..mix.parts.len()).collect();
+    let (all, blocks) = (mix.messages.len(), mix.parts.len() - 1);
+    let accepted = mix.give(&order).iter().filter(|got| got.is_ok()).count();
+    let in_blocks = all - mix.parts[blocks].len();
+    let counts = format!("{all} messages, {accepted} accepted\n{in_blocks} of them in {blocks} blocks\n");
+    format!("turns of {}\n{counts}{}", names.join(" "), mix.walk())
 }
 
 fn word(bytes: &[u8], at: usize) -> u32 {
