@@ -111,7 +111,7 @@ fn tell_turns(line: &mut [u8], turns: Turns) {
     let at = text::put(
         line,
         at,
-        b" of neighbouring blocks, of different xids and all accepted, may change places: answers and released bytes stay the same",
+        b" of neighbouring blocks, of different xids and all accepted, may change places: answers stay the same, and released bytes where a keeper has room for both",
     );
     text::write_line(line, at);
 }

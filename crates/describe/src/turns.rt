@@ -1,5 +1,5 @@
 // Neighbouring blocks of different streamed transactions. Where every message of both was accepted they may change places: in the other
-// order each message of the trace gets the same answer, and a keeper releases the same bytes.
+// order each message of the trace gets the same answer, and a keeper that has room for both releases the same bytes.
 use session::Answer;
 use session::Place;
 
