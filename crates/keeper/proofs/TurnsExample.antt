@@ -2,7 +2,7 @@
 use Prim.Native.Nat.{ℕ, _+_}
 use native.Mathlib.Omega.{arith}
 use mathlib.Core.List.{List, [], _∷_, _++_, map}
-use mathlib.Core.Bool.{true}
+use mathlib.Core.Bool.{Bool, true}
 use mathlib.Core.Path.{_≡_, refl, sym, _∙_, ap}
 use lib.ListN.{replicate, drop}
 use Rattle.wire.specs.Numbers.{be, wordAt}
@@ -18,9 +18,9 @@ use Rattle.session.specs.Events.{Relation, Change, StreamStop, Tuple}
 use Rattle.session.specs.History.{given}
 use Rattle.session.specs.Rules as session
 use Rattle.session.specs.Rules.{heard, Start, versionOf}
-use Rattle.session.specs.Turns.{stops, goes, BlockOf, starts}
+use Rattle.session.specs.Turns.{stops, goes, BlockOf, starts, getsAfter, allAccepted}
 use Rattle.keeper.specs.Rules.{Call, call, Outcome, recordOf, outcomes}
-use Rattle.keeper.specs.Turns.{givenOf, Got, gotten, gets, allAccepted}
+use Rattle.keeper.specs.Turns.{givenOf, Got, gotten, answerOf, gets}
 use Rattle.keeper.proofs.ListTheorem.{keeper-outcomes}
 use Rattle.keeper.proofs.TurnsTheorem.{turns}
 use Rattle.keeper.proofs.Example.{insert, commit}
@@ -44,6 +44,13 @@ block x first identity g =
 abbrev two : Start
 two = session.named 2
 
+-- what messages get, with a buffer, where others were given before them
+abbrev got : List ℕ → List Call → List Call → List Got
+got buffer before l = getsAfter (gets two buffer) before l
+
+abbrev areAccepted : List Got → Bool
+areAccepted l = allAccepted (map answerOf l)
+
 -- THE PREMISES HOLD
 
 relation-not : (o i c : ℕ) → heard (Relation o i c) ≡ heard StreamStop → ⊥
@@ -60,13 +67,13 @@ nine : BlockOf (versionOf two) 9 (map givenOf (block 9 1 102 2))
 unfolding readMessage readKind named versionAllows versionHas valueField columnEnd groupsEnd tupleEnd optional xidField be wordAt numberField letterField member textField untilZero bytesField
 nine = starts {first = 1} refl (goes (relation-not _ _ _) (goes (change-not _ _ _) (stops refl)))
 
-accepted : allAccepted (gets two (replicate 60 0) [] (block 7 1 100 1 ++ block 9 1 102 2)) ≡ true
+accepted : areAccepted (got (replicate 60 0) [] (block 7 1 100 1 ++ block 9 1 102 2)) ≡ true
 unfolding gets outcomes recordOf digits readMessage readKind named versionAllows versionHas valueField columnEnd groupsEnd tupleEnd optional xidField be wordAt numberField letterField member textField untilZero bytesField
-accepted = ap (λ (os : List Outcome). allAccepted (map gotten os)) (keeper-outcomes two (replicate 60 0) (block 7 1 100 1 ++ block 9 1 102 2))
+accepted = ap (λ (os : List Outcome). areAccepted (map gotten os)) (keeper-outcomes two (replicate 60 0) (block 7 1 100 1 ++ block 9 1 102 2))
 
 -- so every list after them gets the same
 pub example : (after : List Call)
-    → gets two (replicate 60 0) (block 7 1 100 1 ++ block 9 1 102 2) after ≡ gets two (replicate 60 255) (block 9 1 102 2 ++ block 7 1 100 1) after
+    → got (replicate 60 0) (block 7 1 100 1 ++ block 9 1 102 2) after ≡ got (replicate 60 255) (block 9 1 102 2 ++ block 7 1 100 1) after
 example after = turns two (replicate 60 0) (replicate 60 255) refl 7 9 (λ e. omega arith) [] (block 7 1 100 1) (block 9 1 102 2) after seven nine accepted .later
 
 -- NOT ALL ACCEPTED: with room for one record the I that comes second gets 14, and the c of 7 releases its record or nothing
@@ -78,15 +85,15 @@ released (g ∷ l) = g .released
 abbrev ending : List Call
 ending = call (given commit 3) (replicate 30 0) ∷ []
 
-releases : released (gets two (replicate 30 0) (block 7 1 100 1 ++ block 9 1 102 2) ending) ≡ 27
+releases : released (got (replicate 30 0) (block 7 1 100 1 ++ block 9 1 102 2) ending) ≡ 27
 unfolding gets outcomes recordOf digits readMessage readKind named versionAllows versionHas valueField columnEnd groupsEnd tupleEnd optional xidField be wordAt numberField letterField member textField untilZero bytesField
 releases = ap (λ (os : List Outcome). released (drop 8 (map gotten os))) (keeper-outcomes two (replicate 30 0) ((block 7 1 100 1 ++ block 9 1 102 2) ++ ending))
 
-releases-not : released (gets two (replicate 30 0) (block 9 1 102 2 ++ block 7 1 100 1) ending) ≡ 0
+releases-not : released (got (replicate 30 0) (block 9 1 102 2 ++ block 7 1 100 1) ending) ≡ 0
 unfolding gets outcomes recordOf digits readMessage readKind named versionAllows versionHas valueField columnEnd groupsEnd tupleEnd optional xidField be wordAt numberField letterField member textField untilZero bytesField
 releases-not = ap (λ (os : List Outcome). released (drop 8 (map gotten os))) (keeper-outcomes two (replicate 30 0) ((block 9 1 102 2 ++ block 7 1 100 1) ++ ending))
 
-pub without-room : gets two (replicate 30 0) (block 7 1 100 1 ++ block 9 1 102 2) ending ≡ gets two (replicate 30 0) (block 9 1 102 2 ++ block 7 1 100 1) ending → ⊥
+pub without-room : got (replicate 30 0) (block 7 1 100 1 ++ block 9 1 102 2) ending ≡ got (replicate 30 0) (block 9 1 102 2 ++ block 7 1 100 1) ending → ⊥
 without-room e = let z : _≡_ {A = ℕ} 27 0 = sym releases ∙ ap released e ∙ releases-not in omega arith
 
 -- ONE XID: two blocks of 7, all accepted in both orders, that announce the same relation; the I behind them sees the announcement that came second
@@ -107,21 +114,21 @@ abbrev further : List Call
 further = call (given (start 7 0) 3) [] ∷ call (given (insert 7) 3) [] ∷ []
 
 -- the blocks are accepted in both orders
-pub one-accepted : allAccepted (gets two (replicate 90 0) opened (block 7 0 100 1 ++ block 7 0 102 2)) ≡ true
+pub one-accepted : areAccepted (got (replicate 90 0) opened (block 7 0 100 1 ++ block 7 0 102 2)) ≡ true
 unfolding gets outcomes recordOf digits readMessage readKind named versionAllows versionHas valueField columnEnd groupsEnd tupleEnd optional xidField be wordAt numberField letterField member textField untilZero bytesField
-one-accepted = ap (λ (os : List Outcome). allAccepted (drop 2 (map gotten os))) (keeper-outcomes two (replicate 90 0) (opened ++ (block 7 0 100 1 ++ block 7 0 102 2)))
+one-accepted = ap (λ (os : List Outcome). areAccepted (drop 2 (map gotten os))) (keeper-outcomes two (replicate 90 0) (opened ++ (block 7 0 100 1 ++ block 7 0 102 2)))
 
-pub other-accepted : allAccepted (gets two (replicate 90 0) opened (block 7 0 102 2 ++ block 7 0 100 1)) ≡ true
+pub other-accepted : areAccepted (got (replicate 90 0) opened (block 7 0 102 2 ++ block 7 0 100 1)) ≡ true
 unfolding gets outcomes recordOf digits readMessage readKind named versionAllows versionHas valueField columnEnd groupsEnd tupleEnd optional xidField be wordAt numberField letterField member textField untilZero bytesField
-other-accepted = ap (λ (os : List Outcome). allAccepted (drop 2 (map gotten os))) (keeper-outcomes two (replicate 90 0) (opened ++ (block 7 0 102 2 ++ block 7 0 100 1)))
+other-accepted = ap (λ (os : List Outcome). areAccepted (drop 2 (map gotten os))) (keeper-outcomes two (replicate 90 0) (opened ++ (block 7 0 102 2 ++ block 7 0 100 1)))
 
-sees-two : tags (gets two (replicate 90 0) (opened ++ (block 7 0 100 1 ++ block 7 0 102 2)) further) ≡ 2
+sees-two : tags (got (replicate 90 0) (opened ++ (block 7 0 100 1 ++ block 7 0 102 2)) further) ≡ 2
 unfolding gets outcomes recordOf digits readMessage readKind named versionAllows versionHas valueField columnEnd groupsEnd tupleEnd optional xidField be wordAt numberField letterField member textField untilZero bytesField
 sees-two = ap (λ (os : List Outcome). tags (drop 10 (map gotten os))) (keeper-outcomes two (replicate 90 0) ((opened ++ (block 7 0 100 1 ++ block 7 0 102 2)) ++ further))
 
-sees-one : tags (gets two (replicate 90 0) (opened ++ (block 7 0 102 2 ++ block 7 0 100 1)) further) ≡ 1
+sees-one : tags (got (replicate 90 0) (opened ++ (block 7 0 102 2 ++ block 7 0 100 1)) further) ≡ 1
 unfolding gets outcomes recordOf digits readMessage readKind named versionAllows versionHas valueField columnEnd groupsEnd tupleEnd optional xidField be wordAt numberField letterField member textField untilZero bytesField
 sees-one = ap (λ (os : List Outcome). tags (drop 10 (map gotten os))) (keeper-outcomes two (replicate 90 0) ((opened ++ (block 7 0 102 2 ++ block 7 0 100 1)) ++ further))
 
-pub one-xid : gets two (replicate 90 0) (opened ++ (block 7 0 100 1 ++ block 7 0 102 2)) further ≡ gets two (replicate 90 0) (opened ++ (block 7 0 102 2 ++ block 7 0 100 1)) further → ⊥
+pub one-xid : got (replicate 90 0) (opened ++ (block 7 0 100 1 ++ block 7 0 102 2)) further ≡ got (replicate 90 0) (opened ++ (block 7 0 102 2 ++ block 7 0 100 1)) further → ⊥
 one-xid e = let z : _≡_ {A = ℕ} 2 1 = sym sees-two ∙ ap tags e ∙ sees-one in omega arith

@@ -11,12 +11,13 @@ use Rattle.session.specs.Events.{Event}
 use Rattle.session.specs.History.{Given, given, entry, History, place}
 use Rattle.session.specs.Rules.{rooms, judge, accepts, Heard, unread, heard, hears, versionOf}
 use Rattle.session.specs.Machine.{startOf}
+use Rattle.session.specs.Turns.{getsAfter, allAccepted}
 use Rattle.session.proofs.Stays.{Turn}
 use Rattle.session.proofs.Turns.{Way, allTaken, next, getAll, either-order}
 use Rattle.keeper.specs.Rules.{Kept, keptIn, recordsOf, sizes, laid, Call, call, answerTo, releasedTo, historyAfter, outcomes}
 use Rattle.keeper.specs.Records.{hold}
 use Rattle.keeper.specs.Runs.{run}
-use Rattle.keeper.specs.Turns.{givenOf, Got, gotten, gets, allAccepted, Turns}
+use Rattle.keeper.specs.Turns.{givenOf, Got, gotten, answerOf, gets, Turns}
 use Rattle.keeper.proofs.ListTheorem.{keeper-outcomes}
 use Rattle.keeper.proofs.Alike.{Alike, alike-after, alike-released, alike-judged, turn-releases, alike-blocks}
 use Rattle.keeper.proofs.Rooms.{session-accepts, accepted-is, fitted-after, fitted-before, fitting-taken, still-fits, laid-length}
@@ -99,7 +100,7 @@ module _ (room : ℕ) where
   same-next h (unread n o) xs g out = refl
   same-next h (heard e) xs g out = refl
 
-  same-taken : (l : List Got) → allTaken keeping l ≡ allAccepted l
+  same-taken : (l : List Got) → allTaken keeping l ≡ allAccepted (map answerOf l)
   same-taken [] = refl
   same-taken (g ∷ l) = ap (λ (b : Bool). accepts (g .answer) && b) (same-taken l)
 
@@ -120,15 +121,11 @@ same-all v room (call (given xs g) out ∷ l) buffer h e f =
 pub turns : Turns
 unfolding gets
 turns start buffer buffer' e x y d before one two after b c p =
-    let r = either-order (keeping room) (versionOf start) (from buffer) (from buffer') (is buffer refl) (is buffer' (sym e)) x y d before one two after b c
-    (same-taken room (gets start buffer before (one ++ two)) ∙ p) in
-    record { earlier = r .0; first = r .1; second = r .2; later = r .3 }
+    either-order (keeping room) (versionOf start) (gets start buffer) (gets start buffer') (is buffer refl) (is buffer' (sym e)) x y d before one two after b c
+    (same-taken room (getsAfter (gets start buffer) before (one ++ two)) ∙ p)
   where
     room : ℕ
     room = length buffer
 
-    from : List ℕ → List Call → List Got
-    from b l = map gotten (run (startOf start) (hold b 0) l)
-
-    is : (b : List ℕ) → length b ≡ room → (l : List Call) → from b l ≡ getAll (keeping room) (versionOf start) [] l
+    is : (b : List ℕ) → length b ≡ room → (l : List Call) → map gotten (run (startOf start) (hold b 0) l) ≡ getAll (keeping room) (versionOf start) [] l
     is b e l = ap (map gotten) (keeper-outcomes start b l) ∙ same-all (versionOf start) room l b [] e (omega arith)

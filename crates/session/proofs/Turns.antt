@@ -25,7 +25,7 @@ use Rattle.session.specs.Events.{Event, StreamStart, StreamStop, eventOf
 use Rattle.session.specs.History.{Given, bytesOf, tagOf, Entry, entry, History, placeAfter, place, inBlock, common}
 use Rattle.session.specs.Rules.{rooms, judge, accepts, Heard, unread, heard, heardOf, hears}
 use Rattle.session.specs.State.{State, sorted, freshBy, stateBy}
-use Rattle.session.specs.Turns.{ToStop, stops, goes, BlockOf, starts}
+use Rattle.session.specs.Turns.{ToStop, stops, goes, BlockOf, starts, getsAfter, EitherOrder}
 use Rattle.session.proofs.Tests.{and-parts}
 use Rattle.session.proofs.Formed.{NonZero}
 use Rattle.session.proofs.Lawful.{sorted-lawful}
@@ -357,31 +357,25 @@ module _ (W : Way) (v : Version) where
 
   -- LISTS, from nothing, by a function that gets what this way gets
   module _ (run : List (W .Item) → List (W .Gets)) (is : (l : List (W .Item)) → run l ≡ getAll [] l) where
-    from : (k l : List (W .Item)) → drop (length k) (run (k ++ l)) ≡ getAll (leave [] k) l
+    from : (k l : List (W .Item)) → getsAfter run k l ≡ getAll (leave [] k) l
     from k l = ap (drop (length k)) (is (k ++ l) ∙ get-append k l []) ∙ drop-at (getAll [] k) (getAll (leave [] k) l) (length k) (get-length k [])
 
-    from-two : (k l m : List (W .Item)) → drop (length (k ++ l)) (run ((k ++ l) ++ m)) ≡ getAll (leave (leave [] k) l) m
+    from-two : (k l m : List (W .Item)) → getsAfter run (k ++ l) m ≡ getAll (leave (leave [] k) l) m
     from-two k l m = from (k ++ l) m ∙ ap (λ (h : History). getAll h m) (leave-append k l [])
-
-  abbrev after : (List (W .Item) → List (W .Gets)) → List (W .Item) → List (W .Item) → List (W .Gets)
-  after run k l = drop (length k) (run (k ++ l))
 
   pub either-order :
       (run run' : List (W .Item) → List (W .Gets)) → ((l : List (W .Item)) → run l ≡ getAll [] l) → ((l : List (W .Item)) → run' l ≡ getAll [] l)
       → (x y : ℕ) → (x ≡ y → ⊥) → (before one two later : List (W .Item)) → BlockOf v x (map (W .givenOf) one) → BlockOf v y (map (W .givenOf) two)
-      → allTaken W (after run before (one ++ two)) ≡ true
-      → (after run [] before ≡ after run' [] before)
-      × (after run before one ≡ after run' (before ++ two) one)
-      × (after run (before ++ one) two ≡ after run' before two)
-      × (after run (before ++ (one ++ two)) later ≡ after run' (before ++ (two ++ one)) later)
-  either-order run run' is is' x y d before one two later b c p = (
-    from run is [] before ∙ sym (from run' is' [] before),
-    from run is before one ∙ first-same x y d one two b c h (i .0) (i .1) reached ∙ sym (from-two run' is' before two one),
-    from-two run is before one two ∙ second-same x y d one two b c h (i .0) (i .1) reached ∙ sym (from run' is' before two),
-    from-two run is before (one ++ two) later ∙ ap (λ (k : History). getAll k later) (leave-append one two h)
+      → allTaken W (getsAfter run before (one ++ two)) ≡ true → EitherOrder run run' before one two later
+  either-order run run' is is' x y d before one two later b c p = record {
+    earlier = is before ∙ sym (is' before);
+    first = from run is before one ∙ first-same x y d one two b c h (i .0) (i .1) reached ∙ sym (from-two run' is' before two one);
+    second = from-two run is before one two ∙ second-same x y d one two b c h (i .0) (i .1) reached ∙ sym (from run' is' before two);
+    later =
+        from-two run is before (one ++ two) later ∙ ap (λ (k : History). getAll k later) (leave-append one two h)
         ∙ later-same x y d one two b c h (i .0) (i .1) reached later
-        ∙ sym (from-two run' is' before (two ++ one) later ∙ ap (λ (k : History). getAll k later) (leave-append two one h)),
-  )
+        ∙ sym (from-two run' is' before (two ++ one) later ∙ ap (λ (k : History). getAll k later) (leave-append two one h));
+  }
     where
       h : History
       h = leave [] before

@@ -8,7 +8,7 @@ use Rattle.session.specs.History.{Given, given, History, place}
 use Rattle.session.specs.Rules.{rooms, accepts, Heard, unread, heard, hears, answerTo, historyAfter, answersBy, answers, versionOf}
 use Rattle.session.specs.Machine.{startOf}
 use Rattle.session.specs.Runs.{run}
-use Rattle.session.specs.Turns.{answersTo, allAccepted, Turns}
+use Rattle.session.specs.Turns.{getsAfter, allAccepted, Turns}
 use Rattle.session.proofs.ListTheorem.{session-answers}
 use Rattle.session.proofs.Alike.{Alike, alike-after, alike-judged}
 use Rattle.session.proofs.Stays.{either-alike}
@@ -61,14 +61,9 @@ map-same [] = refl
 map-same (g ∷ l) = ap (λ (t : List Given). g ∷ t) (map-same l)
 
 pub turns : Turns
-unfolding answersTo
 turns start x y d before one two after b c p =
-    let r = either-order alone (versionOf start) answered answered is is x y d before one two after (rw (← map-same one) b) (rw (← map-same two) c)
-    (same-taken (answersTo start before (one ++ two)) ∙ p) in
-    record { first = r .1; second = r .2; later = r .3 }
+    either-order alone (versionOf start) (run (startOf start)) (run (startOf start)) is is x y d before one two after (rw (← map-same one) b) (rw (← map-same two) c)
+    (same-taken (getsAfter (run (startOf start)) before (one ++ two)) ∙ p)
   where
-    answered : List Given → List Answer
-    answered l = run (startOf start) l
-
-    is : (l : List Given) → answered l ≡ getAll alone (versionOf start) [] l
+    is : (l : List Given) → run (startOf start) l ≡ getAll alone (versionOf start) [] l
     is l = session-answers start l ∙ same-all (versionOf start) l []

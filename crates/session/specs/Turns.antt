@@ -24,9 +24,16 @@ pub data ToStop (v : Version) (x : ℕ) : List Given → Type 0 where
 pub data BlockOf (v : Version) (x : ℕ) : List Given → Type 0 where
   starts : {g : Given} {first : ℕ} {l : List Given} → readMessage v false (bytesOf g) ≡ read.Message (m.StreamStart x first) → ToStop v x l → BlockOf v x (g ∷ l)
 
--- WHAT MESSAGES ARE ANSWERED by a fresh session that was given others before them
-unfoldable pub answersTo : Start → List Given → List Given → List Answer
-answersTo start before l = drop (length before) (run (startOf start) (before ++ l))
+-- WHAT MESSAGES GET where others were given before them, by what the messages of a whole list get
+abbrev pub getsAfter : {A G : Type 0} → (List A → List G) → List A → List A → List G
+getsAfter gets before l = drop (length before) (gets (before ++ l))
+
+-- IN EITHER ORDER: each message before `one` and `two`, of both and after them gets the same
+pub record EitherOrder {A G : Type 0} (gets gets' : List A → List G) (before one two after : List A) : Type 0 where
+  pub earlier : gets before ≡ gets' before
+  pub first : getsAfter gets before one ≡ getsAfter gets' (before ++ two) one
+  pub second : getsAfter gets (before ++ one) two ≡ getsAfter gets' before two
+  pub later : getsAfter gets (before ++ (one ++ two)) after ≡ getsAfter gets' (before ++ (two ++ one)) after
 
 abbrev pub allAccepted : List Answer → Bool
 allAccepted [] = true
@@ -35,12 +42,7 @@ allAccepted (a ∷ l) = accepts a && allAccepted l
 -- THE STATEMENT for a session alone. However it starts and whatever messages go before: where `one` is a block of x and `two` a block of y, x and y
 -- differ, and every message of both is accepted in this order, each message of both and every message after them is answered the same in either order:
 -- a change with its announcement's tag, identity and column count. So all are accepted in the other order too. Tags travel with their messages.
-pub record EitherOrder (start : Start) (before one two after : List Given) : Type 0 where
-  pub first : answersTo start before one ≡ answersTo start (before ++ two) one
-  pub second : answersTo start (before ++ one) two ≡ answersTo start before two
-  pub later : answersTo start (before ++ (one ++ two)) after ≡ answersTo start (before ++ (two ++ one)) after
-
 abbrev pub Turns : Type 0
 Turns =
     (start : Start) (x y : ℕ) → (x ≡ y → ⊥) → (before one two after : List Given) → BlockOf (versionOf start) x one → BlockOf (versionOf start) y two
-    → allAccepted (answersTo start before (one ++ two)) ≡ true → EitherOrder start before one two after
+    → allAccepted (getsAfter (run (startOf start)) before (one ++ two)) ≡ true → EitherOrder (run (startOf start)) (run (startOf start)) before one two after
