@@ -121,7 +121,7 @@ held-relation h n i c g (Transaction l) e b w t o = go (eqb t 0) refl
 held-relation h n i c g (Block x) e b w t o = go (eqb t 0) refl
   where
     go : (v : Bool) → eqb t 0 ≡ v → held (entry (Relation n i c) g ∷ h) t o ≡ cond (eqb x t && eqb n o) (shown g i c) (held h t o)
-    go true k = rw (e, eqb-true t 0 k, ne-eqb x 0 (w))
+    go true k = rw (e, eqb-true t 0 k, ne-eqb x 0 w)
     go false k = rw (e, k)
 
 -- and after a commit

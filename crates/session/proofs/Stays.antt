@@ -89,7 +89,7 @@ abbrev pub Along : ℕ → List Entry → History → Type 0
 Along x [] h = Unit {0}
 Along x (entry e g ∷ es) h = Turn x h e × Along x es (entry e g ∷ h)
 
-pub along-stays : (x : ℕ) (es : List Entry) (h : History) → Along x es h → Stays x h (onto es h)
+along-stays : (x : ℕ) (es : List Entry) (h : History) → Along x es h → Stays x h (onto es h)
 along-stays x [] h a = stays-refl x h
 along-stays x (entry e g ∷ es) h a = stays-trans (turn-stays x h g (a .0)) (along-stays x es (entry e g ∷ h) (a .1))
 

@@ -118,7 +118,7 @@ module _ (W : Way) (v : Version) where
   getAll h [] = []
   getAll h (i ∷ l) = W .gets h (hearsAt h i) i ∷ getAll (next W h (hearsAt h i) i) l
 
-  unfoldable pub leave : History → List (W .Item) → History
+  unfoldable leave : History → List (W .Item) → History
   leave h [] = h
   leave h (i ∷ l) = leave (next W h (hearsAt h i) i) l
 
