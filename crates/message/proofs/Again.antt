@@ -83,7 +83,7 @@ text-clear ys =
     until-before ys i l (sym (getD-take (untilZero ys) ys i 0 l) ∙ e))
 
 -- the one letter of a set of one
-only-letter : (k x : ℕ) → member (k ∷ []) x ≡ true → k ≡ x
+pub only-letter : (k x : ℕ) → member (k ∷ []) x ≡ true → k ≡ x
 unfolding member
 only-letter k x h = go (eqb k x) refl h
   where
@@ -91,8 +91,9 @@ only-letter k x h = go (eqb k x) refl h
     go true e h = eqb-true k x e
     go false e h = let z : _≡_ {A = ℕ} 0 1 = cc in absurd (omega arith)
 
-module _ (xs : List ℕ) (small : (i : ℕ) → getD xs i 0 < 256) (short : length xs ≤ largest) where
-  digits-be : (w a : ℕ) → a + w ≤ length xs → digits w (be w xs a) ≡ cut xs a w
+-- the digits of the number that bytes spell are those bytes
+module _ (xs : List ℕ) (small : (i : ℕ) → getD xs i 0 < 256) where
+  pub digits-be : (w a : ℕ) → a + w ≤ length xs → digits w (be w xs a) ≡ cut xs a w
   unfolding digits be
   digits-be zero a h = refl
   digits-be (suc k) a h =
@@ -103,6 +104,7 @@ module _ (xs : List ℕ) (small : (i : ℕ) → getD xs i 0 < 256) (short : leng
       let l : k < length (drop a xs) = simp length-drop (omega arith) in
       rw (high, low, digits-be k a (omega arith), take-suc (drop a xs) k 0, getD-drop)
 
+module _ (xs : List ℕ) (small : (i : ℕ) → getD xs i 0 < 256) (short : length xs ≤ largest) where
   -- pieces are accepted from a to e, and spell what lies there
   pub record Again (ps : List Piece) (a e : ℕ) : Type 0 where
     pub ahead : a ≤ e
@@ -140,7 +142,7 @@ module _ (xs : List ℕ) (small : (i : ℕ) → getD xs i 0 < 256) (short : leng
       let i = number-inv w low high n xs a e q in
       let z : e - a ≡ w = omega (arith, i .2) in
       rw (number-read w low high n xs a (i .0) (i .1))
-      (again-one (numberPiece w low high n (be w xs a)) a w e (rw (i .1)) (i .2 ∙ omega arith) (omega (arith, i .0, i .2)) (rw z (digits-be w a (i .0))))
+      (again-one (numberPiece w low high n (be w xs a)) a w e (rw (i .1)) (i .2 ∙ omega arith) (omega (arith, i .0, i .2)) (rw z (digits-be xs small w a (i .0))))
 
   byte-again : (a k : ℕ) (j : Cursor) → j ≡ At 1 → a < length xs → getD xs a 0 ≡ k → (e : ℕ) → e ≡ a + 1 → Again (record { bytes = k ∷ []; start = 0; judgement = j } ∷ []) a e
   byte-again a k j q l g e p =
@@ -182,7 +184,7 @@ module _ (xs : List ℕ) (small : (i : ℕ) → getD xs i 0 < 256) (short : leng
       let z : e - (a + 4) ≡ n = omega (arith, j .1) in
       subst (λ (s : FieldSpan). Again (lengthPiece (s .value .length) ∷ contentPiece xs (s .value .start) (s .value .length) ∷ []) a e) (sym s)
       (again-then (lengthPiece n ∷ []) (contentPiece xs (a + 4) n ∷ []) a (a + 4) e
-      (again-one (lengthPiece n) a 4 (a + 4) refl (omega arith) (i .0) (rw y (digits-be 4 a (i .0))))
+      (again-one (lengthPiece n) a 4 (a + 4) refl (omega arith) (i .0) (rw y (digits-be xs small 4 a (i .0))))
       (again-one (contentPiece xs (a + 4) n) (a + 4) n e (rw (le-leb (a + 4 + n) (length xs) (j .0))) (omega (arith, j .1)) (omega (arith, j .0, j .1)) (rw z)))
 
   section-again : (F : List ℕ → Cursor → Cursor) → Local F → (a e : ℕ) → a ≤ length xs → F xs (At a) ≡ At e → Again (sectionPiece xs a (F xs (At a)) ∷ []) a e

@@ -59,7 +59,7 @@ module _ {xs : List ℕ} {a : ℕ} where
 
 -- THE FIELDS
 
-be-from : (xs : List ℕ) (a w v : ℕ) (post : List ℕ) → From xs a (digits w v) post → v < 256 ^ w → be w xs a ≡ v
+pub be-from : (xs : List ℕ) (a w v : ℕ) (post : List ℕ) → From xs a (digits w v) post → v < 256 ^ w → be w xs a ≡ v
 unfolding be digits
 be-from xs a zero v post f h = omega arith
 be-from xs a (suc k) v post f h =

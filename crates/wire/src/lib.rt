@@ -3,7 +3,7 @@ ghost use Prim.Native.Nat.{_+_, _≤_};
 ghost use lib.ListN.{drop};
 ghost use lib.IntN.{ℤ};
 ghost use mir.Val.{toZ, ofZ};
-ghost use mir.Syntax.{w32, w64};
+ghost use mir.Syntax.{w16, w32, w64};
 ghost use Rattle.wire.specs.Numbers.{wordAt};
 ghost use Rattle.wire.specs.Fields.{member, numberField, letterField, untilZero, textField, bytesField, valueField, valueEnd, narrow8, narrow16, narrow32, positionOf};
 
@@ -42,6 +42,8 @@ impl Refusal {
     pub const OUTPUT: u8 = 13;
     // No room in the keeper's buffer for a change.
     pub const KEEPER: u8 = 14;
+    // A binary value has the wrong length for its type, or is a bool that is neither 0 nor 1.
+    pub const VALUE: u8 = 17;
 }
 
 // Where reading stands, or the refusal that stopped it.
@@ -182,6 +184,16 @@ pub fn number64(s: &[u8], c: Cursor, low: u64, high: u64, refusal: u8) -> Field6
 }
 
 // The signed number that has the bits of `v`.
+pub fn signed16(v: u16) -> i16
+    ensures { λ r. ⌜ r ≡ toZ w16 v ⌝ }
+{
+    if v < 0x8000 {
+        v as i16
+    } else {
+        -1 - (0xFFFF - v) as i16
+    }
+}
+
 pub fn signed32(v: u32) -> i32
     ensures { λ r. ⌜ r ≡ toZ w32 v ⌝ }
 {
@@ -203,6 +215,26 @@ pub fn signed64(v: u64) -> i64
 }
 
 // The bits of a signed number.
+pub fn bits16(v: i16) -> u16
+    ensures { λ r. ⌜ r ≡ ofZ w16 v ⌝ }
+{
+    if v < 0 {
+        0xFFFF - ((-1 - v) as u16)
+    } else {
+        v as u16
+    }
+}
+
+pub fn bits32(v: i32) -> u32
+    ensures { λ r. ⌜ r ≡ ofZ w32 v ⌝ }
+{
+    if v < 0 {
+        0xFFFF_FFFF - ((-1 - v) as u32)
+    } else {
+        v as u32
+    }
+}
+
 pub fn bits64(v: i64) -> u64
     ensures { λ r. ⌜ r ≡ ofZ w64 v ⌝ }
 {

@@ -1,0 +1,7 @@
+pub mod Floats
+pub mod Spelled
+pub mod Inside
+pub mod Typed
+pub mod Stored
+pub mod RoundTrips
+pub mod AsTuple
