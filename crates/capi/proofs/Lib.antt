@@ -5,9 +5,7 @@ pub mod Made
 pub mod FlatForm
 pub mod ReadFits
 pub mod TakenBack
-pub mod Told
 pub mod Settled
 pub mod Steps
-pub mod Low
 pub mod Put
 pub mod Known

@@ -10,7 +10,8 @@ use Rattle.message.specs.Write.{bytes}
 use Rattle.message.proofs.Accepted.{accepted}
 use Rattle.message.proofs.RoundTrip.{write-after-read}
 use Rattle.capi.specs.Filled.{inside}
-use Rattle.capi.specs.Flat.{flat, readFlat, writeFlat, Writes}
+use Rattle.writer.specs.Told.{Writes}
+use Rattle.capi.specs.Flat.{flat, readFlat, writeFlat}
 use Rattle.capi.proofs.Fitting.{Fits}
 use Rattle.capi.proofs.FlatForm.{unflat-flat}
 use Rattle.capi.proofs.ReadFits.{read-fits}

@@ -15,9 +15,6 @@ use Rattle.message.specs.Kinds.{Kind, kindNumber, kindNumbered, layout}
 use Rattle.message.specs.Messages.{messageOf, readMessage}
 use Rattle.message.specs.Encode.{kindOfMessage, partsOf}
 use Rattle.message.specs.Write.{Writing, refused, writeMessage}
-use Rattle.writer.specs.declared.Written.{Written}
-use Rattle.writer.specs.declared.Written.the-variants as written
-use Rattle.writer.specs.Answer.{answerOf, outputOf}
 use Rattle.capi.specs.Filled.{padded, inside}
 
 -- 16 numbers
@@ -117,19 +114,3 @@ writeFound v b (some m) src = writeMessage v b m src
 
 abbrev pub writeFlat : (version inBlock : ℕ) → (row source : List ℕ) → Writing
 writeFlat version inBlock ns src = writeFound (record { number = version }) (inside inBlock) (unflat ns) src
-
--- the number that is returned: 0, or a refusal's
-abbrev pub writtenNumber : Written → ℕ
-writtenNumber (written.Length n) = 0
-writtenNumber (written.Refused r) = r .number
-
--- the result: the length, or a refusal's offset
-abbrev pub writtenResult : Written → ℕ
-writtenResult (written.Length n) = n
-writtenResult (written.Refused r) = r .offset
-
--- the number that is returned, the result, and the output after it
-pub record Writes (w : Writing) (out : List ℕ) (returned result : ℕ) (out′ : List ℕ) : Type 0 where
-  pub number : returned ≡ writtenNumber (answerOf w out)
-  pub told : result ≡ writtenResult (answerOf w out)
-  pub output : out′ ≡ outputOf w out

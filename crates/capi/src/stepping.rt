@@ -1,8 +1,6 @@
 // Stepping through a tuple, a Relation's columns and a Truncate's OIDs.
 ghost use mathlib.Core.Path.{_≡_};
 ghost use mathlib.Core.List.{[], _∷_};
-ghost use mir.Syntax.{w32};
-ghost use mir.Val.{ofZ};
 ghost use Rattle.message.specs.Messages.{readMessage};
 ghost use Rattle.capi.specs.Filled.{filled, padded, inside};
 ghost use Rattle.capi.specs.Stepping.{sectionOf, sectionStart, startNumbers, stepNumbers, movedOn};
@@ -73,14 +71,6 @@ pub extern "C" fn kq_column_start(
     }
 }
 
-// The 32 bits of a type modifier.
-fn modifier_bits(modifier: i32) -> u64
-    ensures { λ r. ⌜ r ≡ ofZ w32 modifier ⌝ }
-{
-    let bits = wire::bits64(modifier as i64);
-    bits & 0xFFFF_FFFF
-}
-
 fn over(out: &mut [u64; 5]) -> u32
     ensures { λ r. ⌜ filled r (now (out .exit)) ≡ filled 255 (padded 5 []) ⌝ }
 {
@@ -135,7 +125,7 @@ fn relation_step<'a>(bytes: &[u8], position: &'a mut [u64; 2], out: &'a mut [u64
         } => {
             let Position { offset, left } = next;
             let Span { start, length } = name;
-            let bits = modifier_bits(modifier);
+            let bits = wire::bits32(modifier) as u64;
             *position = [offset as u64, left as u64];
             *out = [
                 key as u64,

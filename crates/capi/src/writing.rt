@@ -1,4 +1,5 @@
-ghost use Rattle.capi.specs.Flat.{writeFlat, Writes};
+ghost use Rattle.writer.specs.Told.{Writes};
+ghost use Rattle.capi.specs.Flat.{writeFlat};
 use crate::rows;
 use message::Version;
 use writer::Written;

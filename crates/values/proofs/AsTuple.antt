@@ -1,24 +1,21 @@
 -- Where a step past a binary column finds a value, a step through the tuple finds that `b` column, and ends at the same place. Assumes nothing.
-use Prim.Native.Nat.{ℕ, _+_, _-_}
+use Prim.Native.Nat.{ℕ, _-_}
 use mathlib.Core.List.{List, [], _∷_}
-use mathlib.Core.Bool.{Bool, true, false, cond, _||_}
+use mathlib.Core.Bool.{Bool, true, false, cond}
 use mathlib.Core.Path.{_≡_, refl, sym, ap, _∙_}
 use native.Mathlib.Omega.{arith}
-use borrow.Author.Tests.{eqb-true}
 use lib.Dec.{eqb}
 use lib.ListN.{length, getD}
 use Rattle.wire.specs.declared.Cursor.{Cursor}
 use Rattle.wire.specs.declared.Cursor.the-variants.{At, Refused}
-use Rattle.wire.specs.declared.Field8.{Field8}
 use Rattle.wire.specs.declared.FieldSpan.{FieldSpan}
 use Rattle.wire.specs.Fields.{numberField, letterField, bytesField, valueField, member}
 use Rattle.wire.proofs.There.{no, letter-inv, letter-read}
 use Rattle.message.specs.Layout.{columnLetters}
 use Rattle.message.proofs.Again.{only-letter}
 use Rattle.columns.specs.declared.Position.{Position}
-use Rattle.columns.specs.declared.TupleStep.{TupleStep}
 use Rattle.columns.specs.declared.Column.the-variants.{Value}
-use Rattle.columns.specs.Steps.{Stepped, over, gives, refused, stepped, stood, columnField, tupleStep}
+use Rattle.columns.specs.Steps.{over, gives, stepped, stood, columnField, tupleStep}
 use Rattle.columns.proofs.Columns.{column-end}
 use Rattle.values.specs.Steps.{binary}
 

@@ -1,19 +1,18 @@
 -- What a step past a binary column finds. Assumes nothing.
-use Prim.Native.Nat.{ℕ, suc, _+_, _-_, _<_, _≤_}
-use mathlib.Core.List.{List, [], _∷_, _++_}
+use Prim.Native.Nat.{ℕ, _+_, _-_, _≤_}
+use mathlib.Core.List.{List, [], _∷_}
 use mathlib.Core.Bool.{Bool, true, false, cond}
 use mathlib.Core.Path.{_≡_, refl, sym, ap, _∙_}
 use native.Mathlib.Omega.{arith}
-use borrow.Author.Tests.{ne-eqb}
 use lib.Dec.{eqb}
 use lib.ListN.{length}
 use Rattle.wire.specs.declared.Cursor.{Cursor}
 use Rattle.wire.specs.declared.Cursor.the-variants.{At, Refused}
 use Rattle.wire.specs.declared.FieldSpan.{FieldSpan}
-use Rattle.wire.specs.Fields.{numberField, letterField, bytesField, valueField, noSpan}
+use Rattle.wire.specs.Fields.{numberField, letterField, bytesField, valueField}
 use Rattle.wire.proofs.There.{no, bytes-inv, bytes-read}
 use Rattle.columns.specs.declared.Position.{Position}
-use Rattle.columns.specs.Steps.{Stepped, over, gives, refused, stepped, stood}
+use Rattle.columns.specs.Steps.{over, gives, stepped, stood}
 use Rattle.values.specs.Steps.{binary}
 
 -- a value that was read lies in the list

@@ -3,5 +3,6 @@ pub mod Spelled
 pub mod Inside
 pub mod Typed
 pub mod Stored
+pub mod InColumn
 pub mod RoundTrips
 pub mod AsTuple

@@ -1,17 +1,17 @@
 -- The cases of writing. Assumes nothing.
 use Prim.Native.Nat.{ℕ, _+_, _-_, _<_, _≤_}
 use mathlib.Core.List.{List, _++_}
-use mathlib.Core.Path.{_≡_, refl, sym, _∙_, ap}
+use mathlib.Core.Path.{_≡_, sym, _∙_, ap}
 use native.Mathlib.Omega.{arith}
 use borrow.Author.Tests.{le-leb, lt-leb}
 use lib.ListN.{length, take, drop, length-drop}
-use lib.Seq.{sets, sets-eq, length-take-le}
+use lib.Seq.{sets-eq, length-take-le}
 use Rattle.message.specs.Encode.{digits, cut}
-use Rattle.message.specs.Write.{Writing, bytes, refused}
+use Rattle.message.specs.Write.{bytes, refused}
 use Rattle.copying.specs.Copies.{laidIn}
 use Rattle.message.proofs.Judged.{length-digits}
 use Rattle.writer.specs.declared.Written.{Written}
-use Rattle.writer.specs.declared.Written.the-variants.{Length, Refused}
+use Rattle.writer.specs.declared.Written.the-variants.{Length}
 use Rattle.writer.specs.Answer.{Settles, refusal}
 use Rattle.values.specs.declared.Bits.{Bits}
 use Rattle.values.specs.declared.Bits.the-variants.{Number, Part}

@@ -1,7 +1,7 @@
 -- The cases of reading a value by its type, and of a step. Assumes nothing.
-use Prim.Native.Nat.{ℕ, _+_, _-_, _^_, _<_, _≤_}
+use Prim.Native.Nat.{ℕ, _+_, _-_, _≤_}
 use mathlib.Core.List.{List, [], _∷_}
-use mathlib.Core.Bool.{Bool, true, false, cond, _&&_, _||_}
+use mathlib.Core.Bool.{Bool, true, false, cond, _||_}
 use mathlib.Core.Path.{_≡_, refl, sym, _∙_, ap}
 use native.Mathlib.Omega.{arith}
 use borrow.Author.Tests.{eq-eqb, ne-eqb, eqb-true, le-leb}
@@ -21,10 +21,8 @@ use Rattle.columns.specs.declared.Position.{Position}
 use Rattle.values.specs.declared.ValueKind.{ValueKind}
 use Rattle.values.specs.declared.ValueKind.the-variants as k
 use Rattle.values.specs.declared.Value.{Value}
-use Rattle.values.specs.declared.Value.the-variants as v
 use Rattle.values.specs.declared.TypedColumn.{TypedColumn}
 use Rattle.values.specs.declared.TypedColumn.the-variants as c
-use Rattle.values.specs.declared.TypedStep.{TypedStep}
 use Rattle.values.proofs.ValueKind as kind-type
 use Rattle.values.specs.Types.{rowOf, isRaw, kindOfType, hasWidth, valueOf, typedValue}
 use Rattle.values.specs.Steps.{typedStep, movedBy}

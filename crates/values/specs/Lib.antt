@@ -2,3 +2,4 @@ pub mod Types
 pub mod Steps
 pub mod Readers
 pub mod Writes
+pub mod Formed

@@ -3,3 +3,4 @@ pub mod Stores
 pub mod Whole
 pub mod Old
 pub mod RoundTrips
+pub mod Told

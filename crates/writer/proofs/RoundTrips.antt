@@ -27,7 +27,7 @@ abbrev pub numbers : List Byte → List ℕ
 numbers [] = []
 numbers (x ∷ xs) = x .number ∷ numbers xs
 
-numbers-small : (xs : List Byte) (i : ℕ) → getD (numbers xs) i 0 < 256
+pub numbers-small : (xs : List Byte) (i : ℕ) → getD (numbers xs) i 0 < 256
 numbers-small [] i = omega arith
 numbers-small (x ∷ xs) zero = x .small
 numbers-small (x ∷ xs) (suc i) = numbers-small xs i

@@ -20,14 +20,17 @@ relation-step-requires c κs = tt
 enum-known-column : tie.Need-enum-known-column
 enum-known-column c = search needs
 
-modifier-bits-requires : tie.Need-modifier-bits-requires
-modifier-bits-requires c κs = tt
+bits32-requires : tie.Need-bits32-requires
+bits32-requires c κs = tt
 
-cast-t27 : tie.Need-cast-t27
-cast-t27 c = search needs
+cast-bits : tie.Need-cast-bits
+cast-bits c = search needs
 
-cast-t30 : tie.Need-cast-t30
-cast-t30 c = search needs
+cast-t28 : tie.Need-cast-t28
+cast-t28 c = search needs
+
+cast-t31 : tie.Need-cast-t31
+cast-t31 c = search needs
 
 enum-told : tie.Need-enum-told
 enum-told c = search needs
@@ -45,7 +48,7 @@ returns : tie.Need-returns
 returns c =
     let z : ℤ = c .before .before .before .before .column .given .0 .1 .1 .1 .0 in
     let k : SFits w32 z = record { sfits = c .before .before .before .known-told .given .1 .1 .1 .0 .1 } in
-    rw (c .before .before .modifier-bits .ensures, toZ-ofZ k) (relation-shown _ _ _ _ (c .before .before .before .before .before .before .before .relation-step .ensures) (c .before .before .before .before .column .given .1))
+    rw (c .before .before .bits32 .ensures, toZ-ofZ k) (relation-shown _ _ _ _ (c .before .before .before .before .before .before .before .relation-step .ensures) (c .before .before .before .before .column .given .1))
 
 returns-2 : tie.Need-returns-2
 returns-2 c = let s = relation-shown _ _ _ _ (c .before .before .before .before .before .relation-step .ensures) (c .before .before .enum-told .given .1) in (c .over .ensures ∙ s .0, s .1)
@@ -61,9 +64,10 @@ relation-step-spec =
     element-copy-out-left
     relation-step-requires
     enum-known-column
-    modifier-bits-requires
-    cast-t27
-    cast-t30
+    bits32-requires
+    cast-bits
+    cast-t28
+    cast-t31
     enum-told
     over-requires
     enum-known-column-2

@@ -1,5 +1,5 @@
 use borrow.Author.Needs.{needs}
-use Rattle.capi.proofs.Told.{tells}
+use Rattle.writer.proofs.Told.{tells}
 use Rattle.capi.proofs.writing.kq_write.Statement.{statement}
 use Rattle.capi.proofs.writing.kq_write.Tie as tie
 

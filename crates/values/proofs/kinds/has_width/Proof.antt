@@ -2,9 +2,6 @@ use Rattle.values.proofs.Typed.{listed-one}
 use borrow.Author.Needs.{needs}
 use Rattle.values.proofs.kinds.has_width.Statement.{statement}
 use Rattle.values.proofs.kinds.has_width.Tie as tie
-use Rattle.values.proofs.kinds.has_width.Reads as reads
-use Rattle.values.proofs.kinds.has_width.Lts as lts
-use Rattle.values.proofs.kinds.row_of.Reads as row-of-reads
 
 enum-told : tie.Need-enum-told
 enum-told c = search needs

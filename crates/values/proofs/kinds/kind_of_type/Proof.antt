@@ -1,8 +1,6 @@
 use borrow.Author.Tests.{ne-eqb}
 use Rattle.values.proofs.kinds.kind_of_type.Statement.{statement}
 use Rattle.values.proofs.kinds.kind_of_type.Tie as tie
-use Rattle.values.proofs.kinds.kind_of_type.Reads as reads
-use Rattle.values.proofs.kinds.kind_of_type.Lts as lts
 
 returns : tie.Need-returns
 returns c = rw (c .match .keys1)

@@ -1,9 +1,6 @@
 use borrow.Author.Needs.{needs}
 use Rattle.values.proofs.kinds.row_of.Statement.{statement}
 use Rattle.values.proofs.kinds.row_of.Tie as tie
-use Rattle.values.proofs.kinds.row_of.Reads as reads
-use Rattle.values.proofs.kinds.row_of.Lts as lts
-use Rattle.values.proofs.kinds.row.Reads as row-reads
 
 enum-told : tie.Need-enum-told
 enum-told c = search needs

@@ -1,9 +1,6 @@
 use borrow.Author.Needs.{needs}
 use Rattle.values.proofs.readers.typed_at.Statement.{statement}
 use Rattle.values.proofs.readers.typed_at.Tie as tie
-use Rattle.values.proofs.readers.typed_at.Reads as reads
-use Rattle.values.proofs.readers.typed_at.Lts as lts
-use Rattle.values.proofs.reading.typed_step.Reads as typed-step-reads
 
 typed-step-requires : tie.Need-typed-step-requires
 typed-step-requires c κs = search needs

@@ -2,8 +2,6 @@ use lib.Ieee.{binary64}
 use Rattle.values.proofs.Floats.{above, below, no-nan}
 use Rattle.values.proofs.reading.float8_of.Statement.{statement}
 use Rattle.values.proofs.reading.float8_of.Tie as tie
-use Rattle.values.proofs.reading.float8_of.Reads as reads
-use Rattle.values.proofs.reading.float8_of.Lts as lts
 
 float-from-bits-x : tie.Need-float-from-bits-x
 float-from-bits-x c = no-nan (below binary64 (c .before .args .n) (c .if1 .left))

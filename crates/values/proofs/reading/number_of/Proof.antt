@@ -3,12 +3,6 @@ use Rattle.values.proofs.Typed.{four-wide, eight-wide, raw-number}
 use borrow.Author.Needs.{needs}
 use Rattle.values.proofs.reading.number_of.Statement.{statement}
 use Rattle.values.proofs.reading.number_of.Tie as tie
-use Rattle.values.proofs.reading.number_of.Reads as reads
-use Rattle.values.proofs.reading.number_of.Lts as lts
-use Rattle.wire.proofs.number16.Reads as number16-reads
-use Rattle.wire.proofs.number32.Reads as number32-reads
-use Rattle.wire.proofs.number64.Reads as number64-reads
-use Rattle.wire.proofs.number8.Reads as number8-reads
 
 enum-told : tie.Need-enum-told
 enum-told c = search needs

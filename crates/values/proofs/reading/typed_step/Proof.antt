@@ -3,13 +3,6 @@ use Rattle.values.proofs.Typed.{step-over, step-refused, step-typed}
 use borrow.Author.Needs.{needs}
 use Rattle.values.proofs.reading.typed_step.Statement.{statement}
 use Rattle.values.proofs.reading.typed_step.Tie as tie
-use Rattle.values.proofs.reading.typed_step.Reads as reads
-use Rattle.values.proofs.reading.typed_step.Lts as lts
-use Rattle.values.proofs.kinds.kind_of_type.Reads as kind-of-type-reads
-use Rattle.values.proofs.reading.moved.Reads as moved-reads
-use Rattle.values.proofs.reading.typed_value.Reads as typed-value-reads
-use Rattle.wire.proofs.letter.Reads as letter-reads
-use Rattle.wire.proofs.value.Reads as value-reads
 
 returns : tie.Need-returns
 returns c = step-over _ _ _ (c .if1 .taken)

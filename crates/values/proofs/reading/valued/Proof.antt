@@ -6,13 +6,6 @@ use Rattle.values.proofs.Spelled.{kept}
 use borrow.Author.Needs.{needs}
 use Rattle.values.proofs.reading.valued.Statement.{statement}
 use Rattle.values.proofs.reading.valued.Tie as tie
-use Rattle.values.proofs.reading.valued.Reads as reads
-use Rattle.values.proofs.reading.valued.Lts as lts
-use Rattle.values.proofs.reading.float4_of.Reads as float4-of-reads
-use Rattle.values.proofs.reading.float8_of.Reads as float8-of-reads
-use Rattle.wire.proofs.signed16.Reads as signed16-reads
-use Rattle.wire.proofs.signed32.Reads as signed32-reads
-use Rattle.wire.proofs.signed64.Reads as signed64-reads
 
 enum-told : tie.Need-enum-told
 enum-told c = search needs

@@ -5,14 +5,6 @@ use Rattle.values.proofs.Spelled.{byte-of}
 use borrow.Author.Needs.{needs}
 use Rattle.values.proofs.writing.bits_of.Statement.{statement}
 use Rattle.values.proofs.writing.bits_of.Tie as tie
-use Rattle.values.proofs.writing.bits_of.Reads as reads
-use Rattle.values.proofs.writing.bits_of.Lts as lts
-use Rattle.values.proofs.writing.float4_bits.Reads as float4-bits-reads
-use Rattle.values.proofs.writing.float8_bits.Reads as float8-bits-reads
-use Rattle.values.proofs.writing.number.Reads as number-reads
-use Rattle.wire.proofs.bits16.Reads as bits16-reads
-use Rattle.wire.proofs.bits32.Reads as bits32-reads
-use Rattle.wire.proofs.bits64.Reads as bits64-reads
 
 enum-known-value : tie.Need-enum-known-value
 enum-known-value c = search needs

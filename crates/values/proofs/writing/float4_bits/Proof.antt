@@ -3,8 +3,6 @@ use Rattle.values.proofs.Floats.{differs, equals}
 use borrow.Author.Needs.{needs}
 use Rattle.values.proofs.writing.float4_bits.Statement.{statement}
 use Rattle.values.proofs.writing.float4_bits.Tie as tie
-use Rattle.values.proofs.writing.float4_bits.Reads as reads
-use Rattle.values.proofs.writing.float4_bits.Lts as lts
 
 returns : tie.Need-returns
 unfolding toBits

@@ -5,11 +5,6 @@ use Rattle.values.proofs.Stored.{number-full, number-whole, part-lackin
 use borrow.Author.Needs.{needs}
 use Rattle.values.proofs.writing.write_bits.Statement.{statement}
 use Rattle.values.proofs.writing.write_bits.Tie as tie
-use Rattle.values.proofs.writing.write_bits.Reads as reads
-use Rattle.values.proofs.writing.write_bits.Lts as lts
-use Rattle.copying.proofs.lay_number.Reads as lay-number-reads
-use Rattle.copying.proofs.lay_part.Reads as lay-part-reads
-use Rattle.values.proofs.writing.refused.Reads as refused-reads
 
 enum-known-bits : tie.Need-enum-known-bits
 enum-known-bits c = search needs

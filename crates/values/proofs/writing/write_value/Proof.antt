@@ -2,10 +2,6 @@ use mathlib.Core.Path.{sym}
 use borrow.Author.Needs.{needs}
 use Rattle.values.proofs.writing.write_value.Statement.{statement}
 use Rattle.values.proofs.writing.write_value.Tie as tie
-use Rattle.values.proofs.writing.write_value.Reads as reads
-use Rattle.values.proofs.writing.write_value.Lts as lts
-use Rattle.values.proofs.writing.bits_of.Reads as bits-of-reads
-use Rattle.values.proofs.writing.write_bits.Reads as write-bits-reads
 
 bits-of-requires : tie.Need-bits-of-requires
 bits-of-requires c κs = search needs

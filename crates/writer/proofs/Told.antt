@@ -3,9 +3,9 @@ use Prim.Native.Nat.{ℕ}
 use mathlib.Core.List.{List}
 use mathlib.Core.Path.{_≡_, sym, _∙_, ap}
 use Rattle.message.specs.Write.{Writing}
 use Rattle.writer.specs.declared.Written.{Written}
 use Rattle.writer.specs.Answer.{Settles}
-use Rattle.capi.specs.Flat.{writtenNumber, writtenResult, Writes}
+use Rattle.writer.specs.Told.{writtenNumber, writtenResult, Writes}
 
 pub tells :
     (w : Writing) (out out′ : List ℕ) (r r′ : Written) → Settles w out r out′ → r ≡ r′

@@ -1,0 +1,2 @@
+pub mod Flatness
+pub mod TakenBack
