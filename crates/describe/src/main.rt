@@ -1,6 +1,7 @@
 // Tells a trace on standard input line by line: each message's index, kind, numbers, names and columns, and what a fresh session
-// answers to it; and a summary. A trace is records of the mark C3 4D, a length of 32 bits and a message. The version is the first
-// argument, 2 where there is none. A message that is longer than the buffer's room is passed over.
+// answers to it; and a summary. A binary value is told as a number where its type is known and listed. A trace is records of the mark
+// C3 4D, a length of 32 bits and a message. The version is the first argument, 2 where there is none. A message that is longer than
+// the buffer's room is passed over.
 ghost use Prim.Native.Nat.{_≤_};
 use records::Record;
 use records::Taken;
@@ -8,29 +9,43 @@ use records::Window;
 use session::Session;
 use session::Stepped;
 use summary::Counts;
+use types::CELLS;
+use types::ROWS;
 
 mod answers;
+mod floats;
 mod records;
 mod summary;
 mod text;
 mod time;
 mod told;
 mod turns;
+mod typed;
+mod types;
+mod whole;
 
 // The longest line, an Update of two tuples, has less than 20,000 bytes.
 const LINE: usize = 20_000;
 
 const LAST: u64 = 0xFFFF_FFFF_FFFF_FFFF;
 
-// The session and the counts after a record, and whether another may follow.
+// The session, the counts and the row for the next announcement's types after a record, and whether another may follow.
 struct Progress {
     session: Session,
     counts: Counts,
+    row: usize,
     goes_on: bool,
 }
 
 // Gives the session a message, and tells the message and the answer.
-fn tell_message(line: &mut [u8], session: Session, bytes: &[u8], index: u64) -> Stepped {
+fn tell_message(
+    line: &mut [u8],
+    session: Session,
+    bytes: &[u8],
+    index: u64,
+    marks: &[u64; ROWS],
+    oids: &[u32; CELLS],
+) -> Stepped {
     let read = session::read_in(session, bytes);
     let Stepped {
         session: after,
@@ -38,7 +53,8 @@ fn tell_message(line: &mut [u8], session: Session, bytes: &[u8], index: u64) -> 
     } = session::step(session, bytes, index);
     let at = text::put_number(line, 0, b"", index);
     let at = text::put(line, at, b" ");
-    let at = told::put_read(line, at, read, bytes);
+    let types = types::types_of(marks, oids, answer);
+    let at = told::put_read(line, at, read, bytes, &types);
     let at = text::put(line, at, b": ");
     let at = answers::put_answer(line, at, answer, session, read, bytes);
     text::write_line(line, at);
@@ -62,26 +78,36 @@ fn tell_long(line: &mut [u8], letter: u8, size: usize, index: u64) {
     text::write_line(line, at);
 }
 
-// Tells a record: the session and the counts after it, and whether another may follow.
+// Tells a record.
 fn tell_record(
     line: &mut [u8],
     record: Record,
     room: &[u8],
-    session: Session,
-    counts: Counts,
+    before: Progress,
+    marks: &mut [u64; ROWS],
+    oids: &mut [u32; CELLS],
 ) -> Progress {
+    let Progress {
+        session,
+        counts,
+        row,
+        goes_on: _,
+    } = before;
     match record {
         Record::Message(span) => {
             let bytes = columns::part(room, span);
             let Stepped {
                 session: after,
                 answer,
-            } = tell_message(line, session, bytes, counts.index());
-            let before = session::place_of(session);
-            let counted = counts.with(before, answer, session::place_of(after), span.length);
+            } = tell_message(line, session, bytes, counts.index(), marks, oids);
+            let read = session::read_in(session, bytes);
+            let next = types::remember(marks, oids, row, read, answer, bytes, counts.index());
+            let place = session::place_of(session);
+            let counted = counts.with(place, answer, session::place_of(after), span.length);
             Progress {
                 session: after,
                 counts: counted,
+                row: next,
                 goes_on: true,
             }
         }
@@ -90,6 +116,7 @@ fn tell_record(
             Progress {
                 session,
                 counts: counts.with_long(size),
+                row,
                 goes_on: true,
             }
         }
@@ -98,6 +125,7 @@ fn tell_record(
             Progress {
                 session,
                 counts,
+                row,
                 goes_on: false,
             }
         }
@@ -105,8 +133,14 @@ fn tell_record(
 }
 
 fn tell_all(version: u32, room: &mut [u8], line: &mut [u8]) {
-    let mut session = session::start(version);
-    let mut counts = Counts::none();
+    let mut marks = [0u64; ROWS];
+    let mut oids = [0u32; CELLS];
+    let mut progress = Progress {
+        session: session::start(version),
+        counts: Counts::none(),
+        row: 0,
+        goes_on: true,
+    };
     let mut window = Window { at: 0, end: 0 };
     let mut turns = LAST;
     while 0 < turns {
@@ -114,16 +148,10 @@ fn tell_all(version: u32, room: &mut [u8], line: &mut [u8]) {
             record,
             window: after,
         } = records::next_record(room, window);
-        let Progress {
-            session: stepped,
-            counts: counted,
-            goes_on,
-        } = tell_record(line, record, room, session, counts);
-        if !goes_on {
+        progress = tell_record(line, record, room, progress, &mut marks, &mut oids);
+        if !progress.goes_on {
             return;
         }
-        session = stepped;
-        counts = counted;
         window = after;
         turns -= 1;
     }

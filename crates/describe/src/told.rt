@@ -2,6 +2,9 @@
 ghost use Prim.Native.Nat.{_≤_};
 use crate::text;
 use crate::time;
+use crate::typed;
+use crate::types;
+use crate::types::WIDTH;
 use columns::Column;
 use columns::OidStep;
 use columns::Position;
@@ -90,16 +93,25 @@ fn put_xid(line: &mut [u8], at: usize, xid: u32) -> usize {
     }
 }
 
-fn put_value(line: &mut [u8], at: usize, bytes: &[u8], letter: u8, span: Span) -> usize {
+// The value of the column at a position.
+fn put_value(
+    line: &mut [u8],
+    at: usize,
+    bytes: &[u8],
+    from: Position,
+    letter: u8,
+    span: Span,
+    type_oid: u32,
+) -> usize {
     match letter {
         Column::NULL => text::put(line, at, b"null"),
         Column::UNCHANGED => text::put(line, at, b"unchanged"),
-        Column::BINARY => text::put_binary(line, at, b"binary ", columns::part(bytes, span)),
+        Column::BINARY => typed::put_binary(line, at, bytes, from, type_oid, span),
         _ => put_part(line, at, b"", bytes, span),
     }
 }
 
-fn put_column(line: &mut [u8], at: usize, bytes: &[u8], from: Position) -> Item {
+fn put_column(line: &mut [u8], at: usize, bytes: &[u8], from: Position, type_oid: u32) -> Item {
     let TupleStep { column, next } = columns::tuple_step(bytes, from);
     match column {
         Column::Value {
@@ -107,7 +119,8 @@ fn put_column(line: &mut [u8], at: usize, bytes: &[u8], from: Position) -> Item 
             start,
             length,
         } => {
-            let at = put_value(line, at, bytes, letter, Span { start, length });
+            let span = Span { start, length };
+            let at = put_value(line, at, bytes, from, letter, span, type_oid);
             Item { at, next }
         }
         Column::Over => Item { at, next },
@@ -166,14 +179,22 @@ fn put_separator(line: &mut [u8], at: usize, k: usize) -> usize {
 }
 
 // One of a list, with its number.
-fn put_item(line: &mut [u8], at: usize, what: u8, bytes: &[u8], from: Position, k: usize) -> Item {
+fn put_item(
+    line: &mut [u8],
+    at: usize,
+    what: u8,
+    bytes: &[u8],
+    from: Position,
+    k: usize,
+    types: &[u32; WIDTH],
+) -> Item {
     let at = put_separator(line, at, k);
     let at = text::put_number(line, at, b"[", k as u64);
     let at = text::put(line, at, b"] ");
     match what {
         COLUMNS => put_relation_column(line, at, bytes, from),
         OIDS => put_oid(line, at, bytes, from),
-        _ => put_column(line, at, bytes, from),
+        _ => put_column(line, at, bytes, from, types::type_at(types, k)),
     }
 }
 
@@ -193,7 +214,14 @@ fn put_more(line: &mut [u8], at: usize, count: usize) -> usize {
 }
 
 // The first of a list, and how many more there are.
-fn put_list(line: &mut [u8], at: usize, what: u8, bytes: &[u8], from: Position) -> usize {
+fn put_list(
+    line: &mut [u8],
+    at: usize,
+    what: u8,
+    bytes: &[u8],
+    from: Position,
+    types: &[u32; WIDTH],
+) -> usize {
     let most = shown(from.left);
     let mut end = at;
     let mut next = from;
@@ -202,7 +230,7 @@ fn put_list(line: &mut [u8], at: usize, what: u8, bytes: &[u8], from: Position) 
         let Item {
             at: item_end,
             next: item_next,
-        } = put_item(line, end, what, bytes, next, k);
+        } = put_item(line, end, what, bytes, next, k, types);
         end = item_end;
         next = item_next;
         k += 1;
@@ -211,7 +239,14 @@ fn put_list(line: &mut [u8], at: usize, what: u8, bytes: &[u8], from: Position) 
 }
 
 // A tuple, from where its count stands.
-fn put_tuple(line: &mut [u8], at: usize, words: &[u8], bytes: &[u8], start: usize) -> usize {
+fn put_tuple(
+    line: &mut [u8],
+    at: usize,
+    words: &[u8],
+    bytes: &[u8],
+    start: usize,
+    types: &[u32; WIDTH],
+) -> usize {
     let Field16 { value, next } = wire::number16(
         bytes,
         Cursor::At(start),
@@ -223,7 +258,7 @@ fn put_tuple(line: &mut [u8], at: usize, words: &[u8], bytes: &[u8], start: usiz
     let left = value as usize;
     let at = text::put(line, at, words);
     let at = text::put_count(line, at, b" ", left as u64, b" column");
-    put_list(line, at, VALUES, bytes, Position { offset, left })
+    put_list(line, at, VALUES, bytes, Position { offset, left }, types)
 }
 
 fn put_begin(line: &mut [u8], at: usize, x: Begin) -> usize {
@@ -255,7 +290,14 @@ fn put_relation(line: &mut [u8], at: usize, x: Relation, bytes: &[u8]) -> usize 
     let at = put_name(line, at, bytes, x.namespace, x.name);
     let at = put_xid(line, at, x.xid);
     let at = text::put_shape(line, at, b", ", x.identity, x.count);
-    put_list(line, at, COLUMNS, bytes, Position { offset, left })
+    put_list(
+        line,
+        at,
+        COLUMNS,
+        bytes,
+        Position { offset, left },
+        &types::UNKNOWN,
+    )
 }
 
 fn put_type(line: &mut [u8], at: usize, x: Type, bytes: &[u8]) -> usize {
@@ -264,21 +306,21 @@ fn put_type(line: &mut [u8], at: usize, x: Type, bytes: &[u8]) -> usize {
     put_xid(line, at, x.xid)
 }
 
-fn put_insert(line: &mut [u8], at: usize, x: Insert, bytes: &[u8]) -> usize {
+fn put_insert(line: &mut [u8], at: usize, x: Insert, bytes: &[u8], types: &[u32; WIDTH]) -> usize {
     let at = put_xid(line, at, x.xid);
     let at = text::put_number(line, at, b" into ", x.relation as u64);
-    put_tuple(line, at, b", new", bytes, x.tuple)
+    put_tuple(line, at, b", new", bytes, x.tuple, types)
 }
 
-fn put_old(line: &mut [u8], at: usize, old: OldTuple, bytes: &[u8]) -> usize {
+fn put_old(line: &mut [u8], at: usize, old: OldTuple, bytes: &[u8], types: &[u32; WIDTH]) -> usize {
     match old {
         OldTuple::Nothing => at,
-        OldTuple::Key(start) => put_tuple(line, at, b", key", bytes, start),
-        OldTuple::Full(start) => put_tuple(line, at, b", old", bytes, start),
+        OldTuple::Key(start) => put_tuple(line, at, b", key", bytes, start, types),
+        OldTuple::Full(start) => put_tuple(line, at, b", old", bytes, start, types),
     }
 }
 
-fn put_update(line: &mut [u8], at: usize, x: Update, bytes: &[u8]) -> usize {
+fn put_update(line: &mut [u8], at: usize, x: Update, bytes: &[u8], types: &[u32; WIDTH]) -> usize {
     let Update {
         xid,
         relation,
@@ -287,17 +329,17 @@ fn put_update(line: &mut [u8], at: usize, x: Update, bytes: &[u8]) -> usize {
     } = x;
     let at = put_xid(line, at, xid);
     let at = text::put_number(line, at, b" of ", relation as u64);
-    let at = put_old(line, at, old, bytes);
-    put_tuple(line, at, b", new", bytes, tuple)
+    let at = put_old(line, at, old, bytes, types);
+    put_tuple(line, at, b", new", bytes, tuple, types)
 }
 
-fn put_delete(line: &mut [u8], at: usize, x: Delete, bytes: &[u8]) -> usize {
+fn put_delete(line: &mut [u8], at: usize, x: Delete, bytes: &[u8], types: &[u32; WIDTH]) -> usize {
     let at = put_xid(line, at, x.xid);
     let at = text::put_number(line, at, b" from ", x.relation as u64);
     if x.image == b'K' {
-        put_tuple(line, at, b", key", bytes, x.tuple)
+        put_tuple(line, at, b", key", bytes, x.tuple, types)
     } else {
-        put_tuple(line, at, b", old", bytes, x.tuple)
+        put_tuple(line, at, b", old", bytes, x.tuple, types)
     }
 }
 
@@ -316,7 +358,14 @@ fn put_truncate(line: &mut [u8], at: usize, x: Truncate, bytes: &[u8]) -> usize 
     let at = put_xid(line, at, x.xid);
     let at = put_options(line, at, x.options);
     let at = text::put_count(line, at, b", ", left as u64, b" relation");
-    put_list(line, at, OIDS, bytes, Position { offset, left })
+    put_list(
+        line,
+        at,
+        OIDS,
+        bytes,
+        Position { offset, left },
+        &types::UNKNOWN,
+    )
 }
 
 fn put_logical_message(line: &mut [u8], at: usize, x: LogicalMessage, bytes: &[u8]) -> usize {
@@ -344,16 +393,16 @@ fn put_stream_abort(line: &mut [u8], at: usize, xid: u32, sub_xid: u32) -> usize
     text::put_number(line, at, b", sub-xid ", sub_xid as u64)
 }
 
-fn put_fields(line: &mut [u8], at: usize, m: Message, bytes: &[u8]) -> usize {
+fn put_fields(line: &mut [u8], at: usize, m: Message, bytes: &[u8], types: &[u32; WIDTH]) -> usize {
     match m {
         Message::Begin(x) => put_begin(line, at, x),
         Message::Commit(x) => put_commit(line, at, x),
         Message::Origin(x) => put_origin(line, at, x, bytes),
         Message::Relation(x) => put_relation(line, at, x, bytes),
         Message::Type(x) => put_type(line, at, x, bytes),
-        Message::Insert(x) => put_insert(line, at, x, bytes),
-        Message::Update(x) => put_update(line, at, x, bytes),
-        Message::Delete(x) => put_delete(line, at, x, bytes),
+        Message::Insert(x) => put_insert(line, at, x, bytes, types),
+        Message::Update(x) => put_update(line, at, x, bytes, types),
+        Message::Delete(x) => put_delete(line, at, x, bytes, types),
         Message::Truncate(x) => put_truncate(line, at, x, bytes),
         Message::Message(x) => put_logical_message(line, at, x, bytes),
         Message::StreamStart { xid, first } => put_stream_start(line, at, xid, first),
@@ -363,11 +412,17 @@ fn put_fields(line: &mut [u8], at: usize, m: Message, bytes: &[u8]) -> usize {
     }
 }
 
-// What reading gave: the message, or that the bytes are none.
-pub fn put_read(line: &mut [u8], at: usize, read: Read, bytes: &[u8]) -> usize {
+// What reading gave: the message, with the types of its columns where they are known, or that the bytes are none.
+pub fn put_read(
+    line: &mut [u8],
+    at: usize,
+    read: Read,
+    bytes: &[u8],
+    types: &[u32; WIDTH],
+) -> usize {
     let at = put_first(line, at, bytes);
     match read {
-        Read::Message(m) => put_fields(line, at, m, bytes),
+        Read::Message(m) => put_fields(line, at, m, bytes, types),
         Read::Refused(_) => {
             let at = text::put_count(line, at, b", ", bytes.len() as u64, b" byte");
             text::put(line, at, b", not readable")

@@ -5,10 +5,12 @@ use Rattle.describe.proofs.tell_all.Statement.{statement}
 use Rattle.describe.proofs.tell_all.Tie as tie
 
 abbrev Inv-loop : tie.InvT-loop
-Inv-loop version room₀ line₀ session₀ counts₀ window₀ turns₀ room line session counts window turns = (length room ≡ length room₀) × (length line ≡ length line₀)
+Inv-loop version room₀ line₀ marks₀ oids₀ progress₀ window₀ turns₀ room line marks oids progress window turns =
+    (length room ≡ length room₀) × (length line ≡ length line₀)
 
 abbrev μ-loop : tie.MeasureT-loop
-μ-loop version room₀ line₀ session₀ counts₀ window₀ turns₀ room line session counts window turns = turns
+μ-loop version room₀ line₀ marks₀ oids₀ progress₀ window₀ turns₀ room line marks oids progress window turns =
+    turns
 
 start-requires : tie.Need-start-requires Inv-loop μ-loop
 start-requires c κs = tt
@@ -26,10 +28,10 @@ tell-record-requires : tie.Need-tell-record-requires Inv-loop μ-loop
 tell-record-requires c κs = tt
 
 same-length : tie.Need-same-length Inv-loop μ-loop
-same-length c = search needs
+same-length c = let taken = c .before .before .before .before .before .before .before .before .before .before .before .before .next-record in let turn = c .before .before .before .before .before .before .before .before .before .before .before .before .before .before .before .loop .inv in search needs
 
 same-length-2 : tie.Need-same-length-2 Inv-loop μ-loop
-same-length-2 c = search needs
+same-length-2 c = let taken = c .before .before .before .before .before .before .before .before .before .before .before .before .next-record in let turn = c .before .before .before .before .before .before .before .before .before .before .before .before .before .before .before .loop .inv in search needs
 
 returns : tie.Need-returns Inv-loop μ-loop
 returns c = search needs
@@ -41,7 +43,7 @@ loop-less : tie.Need-loop-less Inv-loop μ-loop
 loop-less c = search needs
 
 loop-again : tie.Need-loop-again Inv-loop μ-loop
-loop-again c = search needs
+loop-again c = let taken = c .before .before .before .before .before .before .before .before .before .before .before .before .next-record in let turn = c .before .before .before .before .before .before .before .before .before .before .before .before .before .before .before .loop .inv in search needs
 
 same-length-3 : tie.Need-same-length-3 Inv-loop μ-loop
 same-length-3 c = search needs

@@ -6,10 +6,10 @@ use Rattle.describe.proofs.told.put_list.Statement.{statement}
 use Rattle.describe.proofs.told.put_list.Tie as tie
 
 abbrev Inv-loop : tie.InvT-loop
-Inv-loop line₀ at what bytes from most end₀ next₀ k₀ line end next k = (k ≤ most + 1) × (length line ≡ length line₀)
+Inv-loop line₀ at what bytes from types most end₀ next₀ k₀ line end next k = (k ≤ most + 1) × (length line ≡ length line₀)
 
 abbrev μ-loop : tie.MeasureT-loop
-μ-loop line₀ at what bytes from most end₀ next₀ k₀ line end next k = most + 1 - k
+μ-loop line₀ at what bytes from types most end₀ next₀ k₀ line end next k = most + 1 - k
 
 shown-requires : tie.Need-shown-requires Inv-loop μ-loop
 shown-requires c κs = tt

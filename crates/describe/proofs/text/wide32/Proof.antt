@@ -1,8 +1,8 @@
 use native.Mathlib.Omega.{arith}
 use mir.ValLaws.{toZ-ofZ}
 use mir.Syntax.{w32}
-use Rattle.describe.proofs.text.wide.Statement.{statement}
-use Rattle.describe.proofs.text.wide.Tie as tie
+use Rattle.describe.proofs.text.wide32.Statement.{statement}
+use Rattle.describe.proofs.text.wide32.Tie as tie
 
 cast-result : tie.Need-cast-result
 cast-result c = rw (toZ-ofZ w32 (c .args .n) (c .fits .n)) (record { sfits = omega (arith, c .fits .n .sfits) })
@@ -10,5 +10,5 @@ cast-result c = rw (toZ-ofZ w32 (c .args .n) (c .fits .n)) (record { sfits = ome
 returns : tie.Need-returns
 returns c = tt
 
-pub wide-spec : {M : Type 1} → statement M
-wide-spec = tie.close (tie.spec cast-result returns)
+pub wide32-spec : {M : Type 1} → statement M
+wide32-spec = tie.close (tie.spec cast-result returns)
