@@ -1,6 +1,6 @@
 /* Kitsoriqu: PostgreSQL's logical replication messages (pgoutput, protocol versions 1 and 2), read, written and judged in sequence.
  *
- * Every function answers every input. It returns 0, or the number of a refusal (KQ_VERSION to KQ_KEEPER) with the offset at which it
+ * Every function answers every input. It returns 0, or the number of a refusal (KQ_VERSION to KQ_VALUE) with the offset at which it
  * arose as the first number of what it fills in. It reads the bytes it is lent and writes what its comment names, nothing else.
  * A pointer must be good for the length that comes with it (or for the numbers its type names), and what is written must not overlap
  * anything else that is lent; a length of 0 may come with any pointer that is not NULL. That is all a caller can do wrong.
@@ -31,11 +31,12 @@ enum {
     KQ_SHAPE = 10,        /* the shape differs from the announcement */
     KQ_ANNOUNCEMENTS = 11, /* no room for an announcement */
     KQ_STREAMS = 12,      /* no room for a streamed transaction */
-    KQ_OUTPUT = 13,       /* the output is shorter than the message to be written, or than the records to be released */
-    KQ_KEEPER = 14        /* no room in the keeper's buffer for a change */
+    KQ_OUTPUT = 13,       /* the output is shorter than the message or value to be written, or than the records to be released */
+    KQ_KEEPER = 14,       /* no room in the keeper's buffer for a change */
+    KQ_VALUE = 17         /* a binary value has the wrong length for its type, or is a bool that is neither 0 nor 1 */
 };
 
-/* What kq_column_step returns when there is nothing left: no refusal. */
+/* What kq_column_step and kq_value_step return when there is nothing left: no refusal. */
 enum { KQ_OVER = 255 };
 
 /* The kinds of messages: the first number of the flat form. */
@@ -144,10 +145,46 @@ uint32_t kq_session_give(kq_session *session, const uint8_t *bytes, size_t len, 
  * Two neighbouring blocks (Stream Start to Stream Stop) of different xids may be exchanged: if every message of both is accepted, then it
  * is in the other order too, and each of them and each message afterwards, given with the same tag and out and buffers of one length, gets
  * the same reply and leaves the same out. So it is with kq_session_give and its answers.
- * This function is in an archive of its own, libcapi_keeper.a; all others are in libcapi.a. */
+ * This function is in an archive of its own, libcapi_keeper.a. */
 #define KQ_REPLY 5
 uint32_t kq_keeper_give(kq_session *session, const uint8_t *bytes, size_t len, uint64_t tag, uint8_t *buffer, size_t buffer_len,
                         size_t *held, uint8_t *out, size_t out_len, uint64_t reply[KQ_REPLY]);
+
+/* The types whose binary values are read as numbers: their OIDs. All others are raw. */
+enum {
+    KQ_BOOL = 16,
+    KQ_INT8 = 20,
+    KQ_INT2 = 21,
+    KQ_INT4 = 23,
+    KQ_FLOAT4 = 700,
+    KQ_FLOAT8 = 701,
+    KQ_TIMESTAMPTZ = 1184
+};
+
+/* THE FLAT FORM of a binary value: the type's OID, the value's bits and 0. A raw value's: 0, its start and its length.
+ *
+ *   bool            0 or 1
+ *   int2 int4 int8  16, 32 or 64 bits: (int16_t)(uint16_t)value[1], (int32_t)(uint32_t)value[1] or (int64_t)value[1] is the number
+ *   float4 float8   the 32 or 64 bits of the IEEE pattern: put them into a uint32_t or uint64_t, and memcpy that to a float or double
+ *   timestamptz     64 bits: (int64_t)value[1] is in microseconds since 2000-01-01 UTC; INT64_MAX is infinity, INT64_MIN -infinity
+ *
+ * A pattern is kept bit for bit, also a NaN's. The start is an offset in the message's bytes (in writing: in the source).
+ * The two functions below are in an archive of their own, libcapi_values.a; all but these and kq_keeper_give are in libcapi.a. */
+#define KQ_VALUE_FLAT 3
+
+/* Steps past the 'b' column at a position, which may be made up, and reads its value by a type OID, such as KQ_COLUMNS gives.
+ * 0: position has moved on, and value is the value's flat form. KQ_OVER: none are left; value is zeros. Else a refusal (KQ_FIELD at the
+ * letter where another stands; as kq_column_step for a length or value; KQ_VALUE at the value's first byte): value is its offset and
+ * zeros. Unless 0 is returned, position is as it was: kq_column_step steps past any column from there. */
+uint32_t kq_value_step(const uint8_t *bytes, size_t len, uint64_t position[2], uint32_t type_oid, uint64_t value[KQ_VALUE_FLAT]);
+
+/* Writes the value of a flat form, whose bytes lie in source where it is raw, to the front of out: the value alone, without letter and
+ * length. 0: *result is how many bytes it has, and out's bytes behind them are as they were. Else a refusal: *result is its offset, 0,
+ * and out is as it was. Numbers that are no value's flat form (an OID that is neither listed nor 0, a number too big for the type, not 0
+ * behind them) are refused with KQ_FIELD before all else, then a raw value past the source with KQ_SHORT, then a short out with
+ * KQ_OUTPUT. */
+uint32_t kq_value_write(const uint64_t value[KQ_VALUE_FLAT], const uint8_t *source, size_t source_len, uint8_t *out, size_t out_len,
+                        uint64_t *result);
 
 #ifdef __cplusplus
 }

@@ -1,5 +1,5 @@
-//! Links `libcapi.a` and `libcapi_keeper.a`, the proved library: from the folder that `KITSORIQU_LIB_DIR` names, else from where
-//! `rt staticlib` writes them.
+//! Links `libcapi.a`, `libcapi_keeper.a` and `libcapi_values.a`, the proved library: from the folder that `KITSORIQU_LIB_DIR` names,
+//! else from where `rt staticlib` writes them.
 use std::env;
 use std::path::{Path, PathBuf};
 use std::process::exit;
@@ -26,4 +26,5 @@ fn main() {
     println!("cargo:rustc-link-search=native={}", dir.display());
     link(&dir, "capi", "KITSORIQU_ARCHIVE");
     link(&dir, "capi_keeper", "KITSORIQU_KEEPER_ARCHIVE");
+    link(&dir, "capi_values", "KITSORIQU_VALUES_ARCHIVE");
 }

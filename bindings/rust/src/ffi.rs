@@ -1,17 +1,18 @@
-//! The eight C functions and the safe calls to them: all the unsafe code there is. `include/kitsoriqu.h` says what each answers.
+//! The ten C functions and the safe calls to them: all the unsafe code there is. `include/kitsoriqu.h` says what each answers.
 //!
 //! The header asks of a caller that each pointer is good for the length that comes with it, and that what is written does not overlap
 //! what is read. References give both: a slice's pointer is good for its length (and is not null where that is 0), an array's for its
 //! numbers, and a `&mut` overlaps nothing else. The functions keep no pointer after they return, and any content of what they are
 //! lent is answered.
 
-/// The numbers of a flat form, of a step, of an answer and of a reply.
+/// The numbers of a flat form, of a step, of an answer, of a reply and of a value's flat form.
 pub const FLAT: usize = 16;
 pub const STEP: usize = 5;
 pub const ANSWER: usize = 4;
 pub const REPLY: usize = 5;
+pub const VALUE_FLAT: usize = 3;
 
-/// What `column_step` returns when there is nothing left.
+/// What `column_step` and `value_step` return when there is nothing left.
 pub const OVER: u32 = 255;
 
 /// The words of a session's record.
@@ -57,6 +58,8 @@ extern "C" {
         out_len: usize,
         reply: *mut u64,
     ) -> u32;
+    fn kq_value_step(bytes: *const u8, len: usize, position: *mut u64, type_oid: u32, value: *mut u64) -> u32;
+    fn kq_value_write(value: *const u64, source: *const u8, source_len: usize, out: *mut u8, out_len: usize, result: *mut u64) -> u32;
 }
 
 #[inline]
@@ -117,4 +120,16 @@ pub fn keeper_give(
     let (out_at, out_length) = (out.as_mut_ptr(), out.len());
     // SAFETY: as in `session_give`; `buffer` and `out` are written for their lengths; `held` is one number and `reply` is REPLY.
     unsafe { kq_keeper_give(session, bytes.as_ptr(), bytes.len(), tag, at, length, held, out_at, out_length, reply.as_mut_ptr()) }
+}
+
+#[inline]
+pub fn value_step(bytes: &[u8], position: &mut [u64; 2], type_oid: u32, value: &mut [u64; VALUE_FLAT]) -> u32 {
+    // SAFETY: `bytes` is read for its length; `position` is two numbers and `value` is VALUE_FLAT.
+    unsafe { kq_value_step(bytes.as_ptr(), bytes.len(), position.as_mut_ptr(), type_oid, value.as_mut_ptr()) }
+}
+
+#[inline]
+pub fn value_write(value: &[u64; VALUE_FLAT], source: &[u8], out: &mut [u8], result: &mut u64) -> u32 {
+    // SAFETY: `value` is VALUE_FLAT numbers; `source` is read and `out` written for their lengths; `result` is one number.
+    unsafe { kq_value_write(value.as_ptr(), source.as_ptr(), source.len(), out.as_mut_ptr(), out.len(), result) }
 }

@@ -32,10 +32,12 @@ impl Refusal {
     pub const ANNOUNCEMENTS: u32 = 11;
     /// There is no room for a streamed transaction.
     pub const STREAMS: u32 = 12;
-    /// The output is shorter than the message to be written, or than what a Stream Commit releases.
+    /// The output is shorter than the message or value to be written, or than what a Stream Commit releases.
     pub const OUTPUT: u32 = 13;
     /// There is no room for a change in the keeper's buffer.
     pub const KEEPER: u32 = 14;
+    /// A binary value has the wrong length for its type, or is a bool that is neither 0 nor 1.
+    pub const VALUE: u32 = 17;
 
     /// The refusal in words.
     pub fn words(&self) -> &'static str {
@@ -54,6 +56,7 @@ impl Refusal {
             Refusal::STREAMS => "there is no room for a streamed transaction",
             Refusal::OUTPUT => "the output is too short",
             Refusal::KEEPER => "there is no room for a change in the keeper's buffer",
+            Refusal::VALUE => "a binary value is none of its type",
             _ => "no such refusal",
         }
     }

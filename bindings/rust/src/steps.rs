@@ -1,4 +1,4 @@
-use crate::{ffi, Refusal};
+use crate::{ffi, Refusal, Value};
 use std::fmt;
 
 /// A column of a tuple.
@@ -89,6 +89,22 @@ impl Position {
         }))
     }
 
+    /// The value of the tuple's binary column here, read by its type's OID, and past it; `None` where none are left.
+    ///
+    /// A column that is not binary is refused with [`Refusal::FIELD`] at its letter, and a value that its type forbids with
+    /// [`Refusal::VALUE`] at its first byte. [`Position::column`] steps past both.
+    pub fn value<'a>(&mut self, bytes: &'a [u8], type_oid: u32) -> Result<Option<Value<'a>>, Refusal> {
+        let mut position = [self.offset, self.left];
+        let mut value = [0; ffi::VALUE_FLAT];
+        let number = ffi::value_step(bytes, &mut position, type_oid, &mut value);
+        [self.offset, self.left] = position;
+        match number {
+            0 => Ok(Some(Value::of(value, bytes))),
+            ffi::OVER => Ok(None),
+            number => Err(Refusal { number, offset: value[0] }),
+        }
+    }
+
     /// The Relation's column here, and past it; `None` where none are left.
     pub fn relation_column<'a>(&mut self, bytes: &'a [u8]) -> Result<Option<RelationColumn<'a>>, Refusal> {
         let Some([key, start, length, type_oid, modifier]) = self.step(Section::Columns, bytes)? else { return Ok(None) };
@@ -163,6 +179,24 @@ impl<'a> Tuple<'a> {
         let at = start as usize;
         let left = u16::from_be_bytes([bytes[at], bytes[at + 1]]).into();
         Tuple { bytes, position: Position { offset: start + 2, left } }
+    }
+
+    /// The value of the next column, which is binary, read by its type's OID; `None` where no column is left. After a refusal, as of
+    /// [`Position::value`], the column is still the next one.
+    ///
+    /// ```
+    /// use kitsoriqu::{read, type_oid, Column, Message, Refusal, Value};
+    ///
+    /// let Message::Insert { mut new, .. } = read(1, false, b"I\0\0\0\x05N\0\x02b\0\0\0\x02\0\x07n")? else { unreachable!() };
+    /// assert_eq!(new.value(type_oid::BOOL), Err(Refusal { number: Refusal::VALUE, offset: 13 }));
+    /// assert_eq!(new.value(type_oid::INT2), Ok(Some(Value::Int2(7))));
+    /// assert_eq!(new.value(type_oid::INT2), Err(Refusal { number: Refusal::FIELD, offset: 15 }));
+    /// assert_eq!(new.next(), Some(Column::Null));
+    /// assert_eq!(new.value(type_oid::INT2), Ok(None));
+    /// # Ok::<(), Refusal>(())
+    /// ```
+    pub fn value(&mut self, type_oid: u32) -> Result<Option<Value<'a>>, Refusal> {
+        self.position.value(self.bytes, type_oid)
     }
 }
 

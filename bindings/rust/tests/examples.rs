@@ -30,6 +30,17 @@ message 7: accepted, 0 bytes held, 66 released
   xid 7: 44
 ";
 
+const VALUES: &str = "\
+id: -42
+kept: true
+weight: 1.5
+at: 762525296500000 microseconds since 2000-01-01
+note: tall
+by: refusal 4 at 54, letter n
+written: 0, 2 bytes, FF FE
+into 1 byte: refusal 13 at 0
+";
+
 #[test]
 fn c_example() {
     assert_eq!(cc::run(&Path::new(HERE).join("../c/example.c"), "example"), PRINTED);
@@ -38,6 +49,11 @@ fn c_example() {
 #[test]
 fn c_keeper() {
     assert_eq!(cc::run(&Path::new(HERE).join("../c/keeper.c"), "keeper"), KEPT);
+}
+
+#[test]
+fn c_values() {
+    assert_eq!(cc::run(&Path::new(HERE).join("../c/values.c"), "values"), VALUES);
 }
 
 #[test]

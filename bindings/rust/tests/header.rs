@@ -1,5 +1,5 @@
 //! The header's constants and the size and alignment of its record, as a C compiler sees them, are those of the Rust declarations.
-use kitsoriqu::{kind, Refusal, Section};
+use kitsoriqu::{kind, type_oid, Refusal, Section};
 use std::fmt::Write;
 use std::mem::{align_of, size_of};
 use std::path::Path;
@@ -28,6 +28,7 @@ fn constants() -> Vec<(&'static str, u64)> {
         ("KQ_STREAMS", Refusal::STREAMS.into()),
         ("KQ_OUTPUT", Refusal::OUTPUT.into()),
         ("KQ_KEEPER", Refusal::KEEPER.into()),
+        ("KQ_VALUE", Refusal::VALUE.into()),
         ("KQ_OVER", ffi::OVER.into()),
         ("KQ_BEGIN", kind::BEGIN),
         ("KQ_COMMIT", kind::COMMIT),
@@ -47,10 +48,18 @@ fn constants() -> Vec<(&'static str, u64)> {
         ("KQ_STEP", ffi::STEP as u64),
         ("KQ_ANSWER", ffi::ANSWER as u64),
         ("KQ_REPLY", ffi::REPLY as u64),
+        ("KQ_VALUE_FLAT", ffi::VALUE_FLAT as u64),
         ("KQ_NEW_TUPLE", Section::NewTuple as u64),
         ("KQ_OLD_TUPLE", Section::OldTuple as u64),
         ("KQ_COLUMNS", Section::Columns as u64),
         ("KQ_OIDS", Section::Oids as u64),
+        ("KQ_BOOL", type_oid::BOOL.into()),
+        ("KQ_INT8", type_oid::INT8.into()),
+        ("KQ_INT2", type_oid::INT2.into()),
+        ("KQ_INT4", type_oid::INT4.into()),
+        ("KQ_FLOAT4", type_oid::FLOAT4.into()),
+        ("KQ_FLOAT8", type_oid::FLOAT8.into()),
+        ("KQ_TIMESTAMPTZ", type_oid::TIMESTAMPTZ.into()),
         ("KQ_SESSION_WORDS", ffi::SESSION_WORDS as u64),
         ("KQ_SESSION_SIZE", size_of::<Record>() as u64),
         ("sizeof(kq_session)", size_of::<Record>() as u64),

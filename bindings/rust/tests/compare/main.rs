@@ -5,6 +5,8 @@
 mod ffi;
 
 mod answers;
+mod binary;
+mod cases;
 mod deeds;
 mod generate;
 mod history;
@@ -17,10 +19,12 @@ mod moves;
 mod rng;
 mod sequences;
 mod tally;
+mod typed;
 
 mod keepers;
 mod reading;
 mod sessions;
 mod stepping;
 mod turns;
+mod values;
 mod writing;

@@ -8,7 +8,8 @@ pub fn run(source: &Path, name: &str) -> String {
     let program = Path::new(env!("CARGO_TARGET_TMPDIR")).join(name);
     let mut compiler = Command::new("cc");
     compiler.args(["-std=c11", "-Wall", "-Wextra", "-Werror", "-pedantic", "-I", INCLUDE, "-o"]);
-    compiler.arg(&program).arg(source).arg(env!("KITSORIQU_ARCHIVE")).arg(env!("KITSORIQU_KEEPER_ARCHIVE"));
+    compiler.arg(&program).arg(source);
+    compiler.args([env!("KITSORIQU_ARCHIVE"), env!("KITSORIQU_KEEPER_ARCHIVE"), env!("KITSORIQU_VALUES_ARCHIVE")]);
     assert!(compiler.status().expect("cc is there").success(), "{} compiles", source.display());
     let run = Command::new(&program).output().unwrap();
     assert!(run.status.success(), "{} runs", source.display());
