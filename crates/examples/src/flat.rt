@@ -27,7 +27,7 @@ struct List {
 }
 
 // The bits of a signed number.
-fn bits64(v: i64) -> u64 {
+pub fn bits64(v: i64) -> u64 {
     if v < 0 {
         0xFFFF_FFFF_FFFF_FFFF - ((-1 - v) as u64)
     } else {

@@ -74,7 +74,7 @@ fn size_at(line: &[u8], from: usize) -> Decimal {
 }
 
 // The first bytes of a buffer or an output.
-fn part(bytes: &mut [u8], size: usize) -> &mut [u8] {
+pub fn part(bytes: &mut [u8], size: usize) -> &mut [u8] {
     if size < bytes.len() {
         &mut bytes[..size]
     } else {

@@ -2,7 +2,8 @@
 // on how many both gave the same answer and the one that stands there. Cases that are marked for it are then varied: at
 // every version and place, cut short, made longer, and with one byte changed. What a message has is stepped through to its
 // end, and from every offset. A message that was read is written back from its bytes, and made-up ones are written or refused.
-// Messages are given to sessions, and to sessions with a keeper.
+// Messages are given to sessions, and to sessions with a keeper. Binary values are read by their types, those of the cases, those that
+// stand at any offset of a message, and patterns of every type, and written back.
 ghost use Prim.Native.Nat.{_≤_};
 ghost use lib.ListN.{length};
 use libc::STDIN_FILENO;
@@ -13,11 +14,15 @@ use message::Version;
 use second_reader::Seen;
 use text::Decimal;
 
+mod everywhere;
 mod flat;
 mod keepers;
 mod sessions;
 mod steps;
+mod sweep;
 mod text;
+mod typed;
+mod wanted;
 mod writing;
 
 const AS_WRITTEN: u8 = 0;
@@ -40,12 +45,17 @@ const LESS_ROOM: u8 = 8;
 
 const WRITTEN_AT_EVERY_VERSION: u8 = 9;
 
+const VALUES: u8 = 10;
+
 // The bytes that are put in: numbers at the edges, and every letter that a layout has.
 const BYTES: [u8; 35] = *b"\x00\x01\x02\x03\x04\x06\x07\x08\x40\x7F\x80\xFFABCDEIKMNORSTUYbcdfintu";
 
 const LAST: usize = 0xFFFF_FFFF_FFFF_FFFF;
 
 const VERSIONS: [u32; 5] = [0, 1, 2, 3, 0xFFFF_FFFF];
+
+// The cases have fewer bytes than this.
+const ROOM: usize = 131_072;
 
 struct Tally {
     cases: u64,
@@ -321,25 +331,24 @@ fn run_more(tally: Tally, pass: u8, version: u32, in_block: bool, bytes: &[u8]) 
     match pass {
         STEPS => tally.with(is_stepped(version, in_block, bytes)),
         POSITIONS => run_positions(tally, version, in_block, bytes),
+        VALUES => everywhere::run(tally, bytes),
         _ => run_written(tally, pass, version, in_block, bytes),
     }
 }
 
-// Writes the made-up message of a line.
-fn run_made(tally: Tally, line: &[u8], message: &mut [u8]) -> Tally {
-    let case = text::parse_case(line, 1, message);
-    let is_good = case.good
-        && writing::is_made(
-            case.version,
-            case.in_block,
-            text::front(message, case.size),
-            text::back(line, case.answer),
-        );
-    if !is_good {
-        print(b"  ");
-        print(line);
+// A made-up message, or a value.
+fn run_other(tally: Tally, pass: u8, line: &[u8], message: &mut [u8]) -> Tally {
+    let is_value = text::byte_at(line, 0) == b'v';
+    if pass == AS_WRITTEN && is_value {
+        return typed::run_case(tally, line, message);
     }
-    tally.with(is_good)
+    if pass == AS_WRITTEN {
+        return writing::run_made(tally, line, message);
+    }
+    if pass == VALUES && is_value {
+        return typed::run_everywhere(tally, line, message);
+    }
+    tally
 }
 
 // Whether a line with this first byte is a group's name, a note or empty, or concerns a session.
@@ -356,12 +365,8 @@ fn run_line(tally: Tally, pass: u8, line: &[u8], message: &mut [u8]) -> Tally {
     if is_no_case(first) {
         return tally;
     }
-    if first == b'!' {
-        return if pass == AS_WRITTEN {
-            run_made(tally, line, message)
-        } else {
-            tally
-        };
+    if first == b'!' || first == b'v' {
+        return run_other(tally, pass, line, message);
     }
     let is_varied = first == b'~';
     let case = text::parse_case(line, is_varied as usize, message);
@@ -435,13 +440,14 @@ fn print_pass(pass: u8) {
         POSITIONS => print(b"steps from every offset"),
         WRITTEN_BACK => print(b"written back"),
         LESS_ROOM => print(b"written back into less room"),
+        VALUES => print(b"values from every offset"),
         _ => print(b"written back at every version and place"),
     }
 }
 
 fn run_passes(cases: &[u8], message: &mut [u8]) {
     let mut pass = EVERY_VERSION;
-    while pass <= WRITTEN_AT_EVERY_VERSION {
+    while pass <= VALUES {
         let tally = run_lines(pass, cases, message);
         print_pass(pass);
         print_tally(tally);
@@ -452,6 +458,7 @@ fn run_passes(cases: &[u8], message: &mut [u8]) {
 fn run_all(cases: &[u8], message: &mut [u8]) {
     run_groups(cases, message);
     run_passes(cases, message);
+    sweep::run();
 }
 
 fn read_some(room: &mut [u8]) -> usize
@@ -475,7 +482,7 @@ fn read_all(room: &mut [u8]) -> usize {
 }
 
 fn main() {
-    let mut room = io::large_buffer();
+    let mut room = [0u8; ROOM];
     let mut message = io::large_buffer();
     let n = read_all(&mut room);
     if n == room.len() {

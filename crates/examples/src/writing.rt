@@ -1,4 +1,5 @@
 // Writes messages that were read back from their own bytes, and messages that are made up.
+use crate::Tally;
 use crate::text;
 use message::Begin;
 use message::Commit;
@@ -18,7 +19,7 @@ use wire::Refusal;
 use wire::Span;
 use writer::Written;
 
-const GUARD: u8 = 0xA5;
+pub const GUARD: u8 = 0xA5;
 
 const VERSIONS: [u32; 5] = [0, 1, 2, 3, 0xFFFF_FFFF];
 
@@ -29,12 +30,12 @@ fn plus(a: usize, b: usize) -> usize {
     std::num::wrapping_add_usize(a, b)
 }
 
-fn refusal(number: u8, offset: usize) -> Refusal {
+pub fn refusal(number: u8, offset: usize) -> Refusal {
     Refusal { number, offset }
 }
 
 // What writing gave, with 0 and the length as the refusal of what is written.
-fn answer_of(written: Written) -> Refusal {
+pub fn answer_of(written: Written) -> Refusal {
     match written {
         Written::Length(length) => refusal(0, length),
         Written::Refused(refusal) => refusal,
@@ -57,7 +58,7 @@ fn write(
     answer_of(writer::write_message(version, in_block, m, source, &mut out[..room]))
 }
 
-fn is_untouched(out: &[u8]) -> bool {
+pub fn is_untouched(out: &[u8]) -> bool {
     let mut k = 0;
     while k < out.len() {
         if out[k] != GUARD {
@@ -174,7 +175,7 @@ fn word(value: u64) -> u32 {
     (value % 0x1_0000_0000) as u32
 }
 
-fn byte(value: u64) -> u8 {
+pub fn byte(value: u64) -> u8 {
     (value % 256) as u8
 }
 
@@ -343,7 +344,7 @@ fn numbers(line: &[u8], from: usize) -> [u64; 10] {
 }
 
 // Whether a made-up message gives its answer: `number offset: letter room numbers`.
-pub fn is_made(v: u32, in_block: bool, source: &[u8], answer: &[u8]) -> bool {
+fn is_made(v: u32, in_block: bool, source: &[u8], answer: &[u8]) -> bool {
     let number = text::read_decimal(answer, 0);
     let offset = text::read_decimal(answer, number.next);
     let letter = text::skip_spaces(answer, plus(offset.next, 1));
@@ -354,4 +355,21 @@ pub fn is_made(v: u32, in_block: bool, source: &[u8], answer: &[u8]) -> bool {
     let m = made(text::byte_at(answer, letter), n);
     let want = refusal(byte(number.value), offset.value as usize);
     is_answered(v, in_block, m, source, n[0] as usize, want)
+}
+
+// Writes the made-up message of a line.
+pub fn run_made(tally: Tally, line: &[u8], message: &mut [u8]) -> Tally {
+    let case = text::parse_case(line, 1, message);
+    let is_good = case.good
+        && is_made(
+            case.version,
+            case.in_block,
+            text::front(message, case.size),
+            text::back(line, case.answer),
+        );
+    if !is_good {
+        crate::print(b"  ");
+        crate::print(line);
+    }
+    tally.with(is_good)
 }

@@ -27,18 +27,18 @@ fn sum(a: usize, b: usize) -> usize {
 }
 
 // The number at an index, and 0 past the last.
-fn at(plan: &[usize], i: usize) -> usize {
+pub fn at(plan: &[usize], i: usize) -> usize {
     if i < plan.len() { plan[i] } else { 0 }
 }
 
 // Puts a number at an index, and nothing past the last.
-fn put(plan: &mut [usize], i: usize, n: usize) {
+pub fn put(plan: &mut [usize], i: usize, n: usize) {
     if i < plan.len() {
         plan[i] = n;
     }
 }
 
-fn byte_at(bytes: &[u8], i: usize) -> u8 {
+pub fn byte_at(bytes: &[u8], i: usize) -> u8 {
     if i < bytes.len() { bytes[i] } else { 0 }
 }
 

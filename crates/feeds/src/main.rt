@@ -1,17 +1,20 @@
 // Gives feeds recorded from a PostgreSQL server, named by its arguments, each to a fresh session of the version in its name, and to one
 // with a keeper besides. Prints each refusal, what each Stream Commit released, how many bytes are still held in the end, and how many
-// messages were accepted. A feed is records of the mark C3 4D, a length of 32 bits and a message. Behind a word `turns` stand two feeds whose
-// blocks are mixed, and exchanged: how often, and whether a message got something else then, is printed.
+// messages were accepted; and of a feed with binary columns what their values sum to. A feed is records of the mark C3 4D, a length of 32
+// bits and a message. Behind a word `turns` stand two feeds whose blocks are mixed, and exchanged: how often, and whether a message got
+// something else then, is printed.
 ghost use Prim.Native.Nat.{_≤_, _<_};
 ghost use mathlib.Core.Path.{_≡_};
 ghost use lib.ListN.{length, take};
 use giving::Counts;
 use libc::STDOUT_FILENO;
 
+mod binary;
 mod blocks;
 mod giving;
 mod notes;
 mod records;
+mod sums;
 mod turns;
 
 const ROOM: usize = 524_288;
@@ -96,12 +99,17 @@ fn read_feed(name: &[u8], room: &mut [u8]) -> usize {
     n
 }
 
+fn give_feed(version: u32, trace: &[u8], buffer: &mut [u8], out: &mut [u8]) {
+    print_counts(giving::give_all(version, trace, buffer, out));
+    sums::print_sums(binary::read_all(version, trace));
+}
+
 // A feed is read into the room; the buffer is the keeper's, and the output is for what it releases.
 fn run_feed(name: &[u8], room: &mut [u8], buffer: &mut [u8], out: &mut [u8]) {
     print(name);
     print(b"\n");
     let n = read_feed(name, room);
-    print_counts(giving::give_all(version_of(name), front(room, n), buffer, out));
+    give_feed(version_of(name), front(room, n), buffer, out);
 }
 
 fn run_argument(k: usize, room: &mut [u8], buffer: &mut [u8], out: &mut [u8]) {

@@ -17,6 +17,10 @@ ghost use Prim.Native.Nat.{ℕ, _+_, _≤_, _<_};
 ghost use lib.ListN.{length};
 ghost use Rattle.second_reader.specs.Bounds.{Stepped, Tupled, Kept, Answered};
 
+mod values;
+
+pub use values::read_value;
+
 const VERSION: u8 = 1;
 
 const SHORT: u8 = 2;

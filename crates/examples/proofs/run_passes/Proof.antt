@@ -6,10 +6,10 @@ use Rattle.examples.proofs.run_passes.Statement.{statement}
 use Rattle.examples.proofs.run_passes.Tie as tie
 
 abbrev Inv-loop : tie.InvT-loop
-Inv-loop cases message₀ pass₀ message pass = (pass ≤ 10) × (length message ≡ length message₀)
+Inv-loop cases message₀ pass₀ message pass = (pass ≤ 11) × (length message ≡ length message₀)
 
 abbrev μ-loop : tie.MeasureT-loop
-μ-loop cases message₀ pass₀ message pass = 10 - pass
+μ-loop cases message₀ pass₀ message pass = 11 - pass
 
 loop-holds : tie.Need-loop-holds Inv-loop μ-loop
 loop-holds c = omega arith

@@ -1,0 +1,14 @@
+use native.Mathlib.Omega.{arith}
+use mir.ValLaws.{toZ-ofZ}
+use mir.Syntax.{w32}
+use Rattle.feeds.proofs.sums.of32.Statement.{statement}
+use Rattle.feeds.proofs.sums.of32.Tie as tie
+
+cast-result : tie.Need-cast-result
+cast-result c = rw (toZ-ofZ w32 (c .args .v) (c .fits .v)) (record { sfits = omega (arith, c .fits .v .sfits) })
+
+returns : tie.Need-returns
+returns c = tt
+
+pub of32-spec : {M : Type 1} → statement M
+of32-spec = tie.close (tie.spec cast-result returns)
