@@ -17,7 +17,7 @@ use Rattle.values.specs.declared.Bits.the-variants.{Number, Part}
 use Rattle.values.specs.declared.TypedColumn.{TypedColumn}
 use Rattle.values.specs.declared.TypedColumn.the-variants as c
 
--- THE TABLE: a type's OID, how many bytes its values have, and the largest number that they may spell
+-- THE TABLE: a type's OID, how many bytes its values have, and the largest number that they may spell. Raw has no line: all 0
 
 abbrev row : ℕ → ℕ → ℕ → TypeRow
 row oid width most = record { oid = oid; width = width; most = most }
