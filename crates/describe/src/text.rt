@@ -143,24 +143,6 @@ pub fn put_number(line: &mut [u8], at: usize, words: &[u8], n: u64) -> usize {
     put(line, at, &digits[..count])
 }
 
-fn wide16(n: i16) -> i64 {
-    n as i64
-}
-
-fn wide32(n: i32) -> i64 {
-    n as i64
-}
-
-// A signed number of 16 bits, after words.
-pub fn put_signed16(line: &mut [u8], at: usize, words: &[u8], n: i16) -> usize {
-    put_signed(line, at, words, wide16(n))
-}
-
-// A signed number of 32 bits, after words.
-pub fn put_signed32(line: &mut [u8], at: usize, words: &[u8], n: i32) -> usize {
-    put_signed(line, at, words, wide32(n))
-}
-
 // A signed number, after words.
 pub fn put_signed(line: &mut [u8], at: usize, words: &[u8], n: i64) -> usize {
     let bits = wire::bits64(n);

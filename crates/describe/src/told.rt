@@ -143,7 +143,7 @@ fn put_relation_column(line: &mut [u8], at: usize, bytes: &[u8], from: Position)
             let at = text::put_if(line, at, key == 1, b"key ");
             let at = put_part(line, at, b"", bytes, name);
             let at = text::put_number(line, at, b" type ", type_oid as u64);
-            let at = text::put_signed32(line, at, b" modifier ", modifier);
+            let at = text::put_signed(line, at, b" modifier ", wire::wide32(modifier));
             Item { at, next }
         }
         RelationColumn::Over => Item { at, next },

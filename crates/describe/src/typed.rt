@@ -67,8 +67,8 @@ fn bits_of(value: Value) -> u64 {
 fn put_value(line: &mut [u8], at: usize, value: Value, part: &[u8]) -> usize {
     match value {
         Value::Bool(b) => put_bool(line, at, b),
-        Value::Int2(n) => text::put_signed16(line, at, b"int2 ", n),
-        Value::Int4(n) => text::put_signed32(line, at, b"int4 ", n),
+        Value::Int2(n) => text::put_signed(line, at, b"int2 ", wire::wide16(n)),
+        Value::Int4(n) => text::put_signed(line, at, b"int4 ", wire::wide32(n)),
         Value::Int8(n) => text::put_signed(line, at, b"int8 ", n),
         Value::Float4(_) => put_float4(line, at, bits_of(value)),
         Value::Float4Nan(n) => put_nan(line, at, b"float4 ", n == NAN4, part),

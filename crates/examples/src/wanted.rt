@@ -77,22 +77,14 @@ fn is_float(x: f64, want: Want) -> bool {
     x == y && 1.0 / x == 1.0 / y
 }
 
-fn of16(v: i16) -> i64 {
-    v as i64
-}
-
-fn of32(v: i32) -> i64 {
-    v as i64
-}
-
 // Whether a value is the one that is wanted.
 pub fn is_value(value: Value, want: Want) -> bool {
     let letter = want.letter;
     let n = bits(want);
     match value {
         Value::Bool(b) => letter == b'b' && b as u64 == n,
-        Value::Int2(v) => letter == b's' && flat::bits64(of16(v)) == n,
-        Value::Int4(v) => letter == b'i' && flat::bits64(of32(v)) == n,
+        Value::Int2(v) => letter == b's' && flat::bits64(wire::wide16(v)) == n,
+        Value::Int4(v) => letter == b'i' && flat::bits64(wire::wide32(v)) == n,
         Value::Int8(v) => letter == b'l' && flat::bits64(v) == n,
         Value::TimestampTz(v) => letter == b'z' && flat::bits64(v) == n,
         Value::Float4(x) => letter == b'f' && is_float(std::num::f32_to_f64_with_nan(x), want),

@@ -97,14 +97,6 @@ pub fn none() -> Sums {
     }
 }
 
-fn of16(v: i16) -> i64 {
-    v as i64
-}
-
-fn of32(v: i32) -> i64 {
-    v as i64
-}
-
 // A NaN, as an operation makes it.
 fn nan() -> f64 {
     0.0 / 0.0
@@ -136,8 +128,8 @@ pub fn with(sums: Sums, value: Value) -> Sums {
     let mut after = sums;
     match value {
         Value::Bool(_) => after.bools = sums.bools.with(n),
-        Value::Int2(v) => after.int2s = sums.int2s.with(wire::bits64(of16(v))),
-        Value::Int4(v) => after.int4s = sums.int4s.with(wire::bits64(of32(v))),
+        Value::Int2(v) => after.int2s = sums.int2s.with(wire::bits64(wire::wide16(v))),
+        Value::Int4(v) => after.int4s = sums.int4s.with(wire::bits64(wire::wide32(v))),
         Value::Int8(v) => after.int8s = sums.int8s.with(wire::bits64(v)),
         Value::Float4(x) => {
             after.float4s = sums.float4s

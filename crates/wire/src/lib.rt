@@ -245,6 +245,19 @@ pub fn bits64(v: i64) -> u64
     }
 }
 
+// A signed number in 64 bits.
+pub fn wide16(v: i16) -> i64
+    ensures { λ r. ⌜ r ≡ v ⌝ }
+{
+    v as i64
+}
+
+pub fn wide32(v: i32) -> i64
+    ensures { λ r. ⌜ r ≡ v ⌝ }
+{
+    v as i64
+}
+
 // Where a cursor stands, and 0 where it has refused.
 pub fn position(c: Cursor) -> usize
     ensures { λ r. ⌜ r ≡ positionOf c ⌝ }
