@@ -11,7 +11,8 @@
 #define MOST_RELATIONS 256
 
 /* The refusals, numbered as in kitsoriqu.h. */
-enum { VERSION = 1, SHORT, KIND, FIELD, LEFT_OVER, RANGE, PLACE, TRANSACTION, RELATION, SHAPE, ANNOUNCEMENTS, STREAMS, OUTPUT, KEEPER };
+enum { VERSION = 1, SHORT, KIND, FIELD, LEFT_OVER, RANGE, PLACE, TRANSACTION, RELATION, SHAPE, ANNOUNCEMENTS, STREAMS, OUTPUT, KEEPER,
+       VALUE = 17 };
 
 typedef struct { uint32_t number; size_t offset; } refusal;
 typedef struct { const uint8_t *at; size_t length; } span;
@@ -37,6 +38,15 @@ typedef struct {
 /* Each gives true, or false and why. */
 bool c_read(uint32_t version, bool in_block, const uint8_t *bytes, size_t length, message *m, refusal *why);
 bool c_write(uint32_t version, bool in_block, const message *m, uint8_t *out, size_t room, size_t *length, refusal *why);
+
+/* A binary value by its type's OID; RAW of any other type. */
+enum { RAW = 0, BOOL = 16, INT8 = 20, INT2 = 21, INT4 = 23, FLOAT4 = 700, FLOAT8 = 701, TIMESTAMPTZ = 1184 };
+typedef struct {
+    uint32_t type;
+    union { bool truth; int16_t int2; int32_t int4; int64_t int8; float float4; double float8; span raw; };  /* a timestamptz is an int8 */
+} typed_value;
+bool c_read_value(uint32_t type_oid, span bytes, typed_value *v, refusal *why);
+bool c_write_value(const typed_value *v, uint8_t *out, size_t room, size_t *length, refusal *why);
 
 typedef enum { IDLE, TRANSACTION_OPEN, BLOCK } place;
 typedef struct { uint64_t tag; uint8_t identity; uint16_t columns; } announcement;

@@ -189,6 +189,7 @@ void c_run_keeper_copy(span message, uint8_t *out, size_t room, totals *t)
 
 static message batch[BATCH];
 static uint32_t blocks[BATCH];
+static const uint8_t *starts[BATCH];
 static size_t filled;
 
 void c_fill(uint32_t version, uint32_t *in_block, const span *messages, size_t count)
@@ -198,6 +199,7 @@ void c_fill(uint32_t version, uint32_t *in_block, const span *messages, size_t c
     for (size_t i = 0; i < count; i++) {
         if (!c_read(version, *in_block, messages[i].at, messages[i].length, &batch[filled], &why)) continue;
         blocks[filled] = *in_block;
+        starts[filled] = messages[i].at;
         *in_block = block_after(*in_block, &batch[filled++]);
     }
 }
@@ -219,6 +221,8 @@ void c_run_write(uint32_t version, uint8_t *out, size_t room, totals *t)
     t->sum += at;
 }
 
+static bool has_tuples(const message *m) { return m->letter == 'I' || m->letter == 'U' || m->letter == 'D'; }
+
 static void step_through(tuple of, totals *t)
 {
     column c;
@@ -232,8 +236,131 @@ void c_run_steps(totals *t)
 {
     for (size_t i = 0; i < filled; i++) {
         const message *m = &batch[i];
-        if (m->letter != 'I' && m->letter != 'U' && m->letter != 'D') continue;
+        if (!has_tuples(m)) continue;
         if (m->change.old_letter) step_through(m->change.old, t);
         if (m->letter != 'D') step_through(m->change.new, t);
     }
+}
+
+/* The next binary column of a tuple that was read, and its type. */
+static bool next_binary(column_cursor *at, type_list *types, span *bytes, uint32_t *type)
+{
+    column c;
+    while (types->count && next_column(at, &c)) {
+        *type = *types->at++;
+        types->count--;
+        *bytes = c.value;
+        if (c.letter == 'b') return true;
+    }
+    return false;
+}
+
+static void read_values(tuple of, type_list types, totals *t)
+{
+    typed_value v;
+    refusal why;
+    span bytes;
+    uint32_t type;
+    for (column_cursor at = columns_of(of); next_binary(&at, &types, &bytes, &type);) {
+        if (c_read_value(type, bytes, &v, &why)) {
+            keep(&v);
+            t->accepted++;
+        } else {
+            keep(&why);
+            t->refused++;
+        }
+    }
+}
+
+void c_run_values(const type_list *types, totals *t)
+{
+    for (size_t i = 0; i < filled; i++) {
+        const message *m = &batch[i];
+        if (!has_tuples(m)) continue;
+        if (m->change.old_letter) read_values(m->change.old, types[i], t);
+        if (m->letter != 'D') read_values(m->change.new, types[i], t);
+    }
+}
+
+/* All values, as the check sees them; and those that were accepted. */
+static struct { uint32_t number; uint64_t out[3]; } seen[MOST_VALUES];
+static typed_value accepted[MOST_VALUES];
+static size_t seen_count, accepted_count;
+
+static void flatten_value(const typed_value *v, const uint8_t *bytes, uint64_t out[3])
+{
+    memset(out, 0, 3 * sizeof *out);
+    switch (v->type) {
+    case BOOL: FLAT(v->type, v->truth); break;
+    case INT2: FLAT(v->type, (uint16_t)v->int2); break;
+    case INT4: case FLOAT4: FLAT(v->type, (uint32_t)v->int4); break;
+    case INT8: case FLOAT8: case TIMESTAMPTZ: FLAT(v->type, (uint64_t)v->int8); break;
+    default: FLAT(RAW, SPAN(v->raw));
+    }
+}
+
+static void see(uint32_t type, span value, const uint8_t *bytes)
+{
+    typed_value *v = &accepted[accepted_count];
+    refusal why;
+    uint64_t *out = seen[seen_count].out;
+    if (c_read_value(type, value, v, &why)) {
+        seen[seen_count].number = 0;
+        flatten_value(v, bytes, out);
+        accepted_count++;
+    } else {
+        seen[seen_count].number = why.number;
+        FLAT(start(bytes, value) + why.offset, 0, 0);
+    }
+    seen_count++;
+}
+
+static void see_values(tuple of, type_list types, const uint8_t *bytes)
+{
+    span value;
+    uint32_t type;
+    for (column_cursor at = columns_of(of); seen_count < MOST_VALUES && next_binary(&at, &types, &value, &type);) see(type, value, bytes);
+}
+
+size_t c_fill_values(const type_list *types)
+{
+    seen_count = accepted_count = 0;
+    for (size_t i = 0; i < filled; i++) {
+        const message *m = &batch[i];
+        if (!has_tuples(m)) continue;
+        if (m->change.old_letter) see_values(m->change.old, types[i], starts[i]);
+        if (m->letter != 'D') see_values(m->change.new, types[i], starts[i]);
+    }
+    return seen_count;
+}
+
+uint32_t c_check_value(size_t index, uint64_t out[3])
+{
+    memcpy(out, seen[index].out, sizeof seen[index].out);
+    return seen[index].number;
+}
+
+uint32_t c_check_written_value(size_t index, uint8_t *out, size_t room, uint64_t *result)
+{
+    size_t length;
+    refusal why = {0, 0};
+    *result = c_write_value(&accepted[index], out, room, &length, &why) ? length : why.offset;
+    return why.number;
+}
+
+void c_run_write_values(uint8_t *out, size_t room, totals *t)
+{
+    refusal why;
+    size_t at = 0, length;
+    for (size_t i = 0; i < accepted_count; i++) {
+        if (c_write_value(&accepted[i], out + at, room - at, &length, &why)) {
+            t->accepted++;
+            at += length;
+        } else {
+            keep(&why);
+            t->refused++;
+        }
+    }
+    keep(out);
+    t->sum += at;
 }

@@ -23,6 +23,16 @@ void c_fill(uint32_t version, uint32_t *in_block, const span *messages, size_t c
 void c_run_write(uint32_t version, uint8_t *out, size_t room, totals *t);
 void c_run_steps(totals *t);
 
+/* Over its binary values, by the types of each message's columns: `c_fill_values` reads them and gives how many there are. `c_check_value`
+ * gives one of them, `c_check_written_value` what one of those that were accepted is written back to. */
+#define MOST_VALUES 8192
+typedef struct { const uint32_t *at; size_t count; } type_list;
+size_t c_fill_values(const type_list *types);
+uint32_t c_check_value(size_t index, uint64_t out[3]);
+uint32_t c_check_written_value(size_t index, uint8_t *out, size_t room, uint64_t *result);
+void c_run_values(const type_list *types, totals *t);
+void c_run_write_values(uint8_t *out, size_t room, totals *t);
+
 /* Over copies of a session: `c_copy_session` copies the one that `c_check_session_give` was given to. */
 #define COPIES 32
 void c_copy_session(void);

@@ -2,15 +2,22 @@
 use crate::contender::{touched, Contender, Refused, Totals};
 use crate::feed::{Feed, Span};
 
-/// The buffers of its keeper and of the keeper's copy.
+/// The buffers of its keeper and of the keeper's copy, and the types of the batch's columns.
 pub struct C {
     buffer: Vec<u8>,
     buffer_copy: Vec<u8>,
+    types: Vec<TypeList>,
+}
+
+#[repr(C)]
+struct TypeList {
+    at: *const u32,
+    count: usize,
 }
 
 impl C {
     pub fn new() -> C {
-        C { buffer: vec![], buffer_copy: vec![] }
+        C { buffer: vec![], buffer_copy: vec![], types: vec![] }
     }
 }
 
@@ -27,6 +34,11 @@ extern "C" {
     fn c_fill(version: u32, in_block: *mut u32, messages: *const Span, count: usize);
     fn c_run_write(version: u32, out: *mut u8, room: usize, totals: *mut Totals);
     fn c_run_steps(totals: *mut Totals);
+    fn c_fill_values(types: *const TypeList) -> usize;
+    fn c_check_value(index: usize, out: *mut u64) -> u32;
+    fn c_check_written_value(index: usize, out: *mut u8, room: usize, result: *mut u64) -> u32;
+    fn c_run_values(types: *const TypeList, totals: *mut Totals);
+    fn c_run_write_values(out: *mut u8, room: usize, totals: *mut Totals);
     fn c_copy_session();
     fn c_run_copies(message: Span, totals: *mut Totals);
     fn c_run_keeper(messages: *const Span, count: usize, out: *mut u8, room: usize, totals: *mut Totals);
@@ -35,7 +47,7 @@ extern "C" {
 }
 
 // Every pointer below is a slice's or an array's, with its length; the driver has one thread, and the messages outlive the run. C keeps
-// the pointers to the two buffers, which stand until others are given.
+// the pointers to the two buffers, which stand until others are given. There are types for each message of a batch.
 impl<'a> Contender<'a> for C {
     fn name(&self) -> &'static str {
         "C"
@@ -115,6 +127,38 @@ impl<'a> Contender<'a> for C {
     fn steps(&self) -> Totals {
         let mut totals = Totals::default();
         unsafe { c_run_steps(&mut totals) };
+        totals
+    }
+
+    fn fill_values(&mut self, types: &[&'static [u32]]) -> Vec<Result<[u64; 3], Refused>> {
+        self.types = types.iter().map(|types| TypeList { at: types.as_ptr(), count: types.len() }).collect();
+        let value = |index| {
+            let mut value = [0; 3];
+            match unsafe { c_check_value(index, value.as_mut_ptr()) } {
+                0 => Ok(value),
+                number => Err((number, value[0])),
+            }
+        };
+        (0..unsafe { c_fill_values(self.types.as_ptr()) }).map(value).collect()
+    }
+
+    fn values(&self) -> Totals {
+        let mut totals = Totals::default();
+        unsafe { c_run_values(self.types.as_ptr(), &mut totals) };
+        totals
+    }
+
+    fn written_value(&self, index: usize, out: &mut [u8]) -> Result<u64, Refused> {
+        let mut result = 0;
+        match unsafe { c_check_written_value(index, out.as_mut_ptr(), out.len(), &mut result) } {
+            0 => Ok(result),
+            number => Err((number, result)),
+        }
+    }
+
+    fn write_values(&self, out: &mut [u8]) -> Totals {
+        let mut totals = Totals::default();
+        unsafe { c_run_write_values(out.as_mut_ptr(), out.len(), &mut totals) };
         totals
     }
 

@@ -1,6 +1,8 @@
-//! The contenders must agree: on what each message is, on each refusal, on what is written, and on each answer of a session.
+//! The contenders must agree: on what each message is, on each refusal, on what is written, on each answer of a session, and on binary
+//! values.
 use crate::contender::{block_after, Contender, Refused};
 use crate::feed::Feed;
+use crate::values::binary_columns;
 
 /// How many messages a session accepts.
 pub fn agree<'a>(contenders: &mut [Box<dyn Contender<'a> + 'a>], feed: &Feed<'a>) -> usize {
@@ -37,6 +39,41 @@ pub fn agree_kept<'a>(contenders: &mut [Box<dyn Contender<'a> + 'a>], feed: &Fee
         assert!(reply.is_ok() || no_room > 0, "message {index}: {reply:?}");
     }
     [no_room, short]
+}
+
+/// How many binary values are accepted, and how many are refused.
+pub fn agree_values<'a>(contenders: &mut [Box<dyn Contender<'a> + 'a>], feed: &Feed<'a>) -> [usize; 2] {
+    let mut refused = 0;
+    let mut accepted = 0;
+    for (index, (bytes, types)) in feed.messages.iter().zip(&feed.types).enumerate() {
+        let values = same(contenders, index, |contender| {
+            contender.fill(feed.version, &mut false, &[bytes], &feed.spans[index..=index]);
+            contender.fill_values(&[types])
+        });
+        let good = values.iter().flatten().count();
+        let written: Vec<_> = (0..good).map(|value| write_back(contenders, index, value, bytes.len())).collect();
+        if good == values.len() && good > 0 {
+            assert_eq!(written, binary_columns(feed.version, bytes), "message {index}: its values are written back to the same bytes");
+        }
+        accepted += good;
+        refused += values.len() - good;
+    }
+    [accepted, refused]
+}
+
+/// What all write a value to; with less room they refuse it.
+fn write_back<'a>(contenders: &mut [Box<dyn Contender<'a> + 'a>], index: usize, value: usize, room: usize) -> Vec<u8> {
+    let written = |contender: &mut Box<dyn Contender<'a> + 'a>, room: usize| {
+        let mut out = vec![0xA5; room];
+        (contender.written_value(value, &mut out), out)
+    };
+    let (length, mut out) = same(contenders, index, |contender| written(contender, room));
+    let length = length.expect("there is room") as usize;
+    if length > 0 {
+        assert_eq!(same(contenders, index, |contender| written(contender, length - 1)).0, Err((13, 0)));
+    }
+    out.truncate(length);
+    out
 }
 
 /// The reply, and the whole output.

@@ -14,7 +14,7 @@ pub const COPIES: usize = 32;
 #[repr(C)]
 #[derive(Clone, Copy, Debug, Default, PartialEq, Eq)]
 pub struct Totals {
-    /// Messages, or columns where those are stepped through.
+    /// Messages, or columns where those are stepped through, or binary values.
     pub accepted: u64,
     pub refused: u64,
     /// Of the tags that a session answers and the bytes that a keeper releases, the lengths that were written, or the lengths of values.
@@ -46,6 +46,8 @@ pub trait Contender<'a> {
     fn keeper_start(&mut self, version: u32, room: usize);
     /// The same numbers, and how many bytes are released to the start of the output.
     fn keeper_give(&mut self, bytes: &[u8], tag: u64, out: &mut [u8]) -> Result<[u64; 5], Refused>;
+    /// Writes one of the accepted values that `fill_values` read to the front of the output: how many bytes it has.
+    fn written_value(&self, index: usize, out: &mut [u8]) -> Result<u64, Refused>;
 
     // what is measured
 
@@ -55,6 +57,11 @@ pub trait Contender<'a> {
     fn fill(&mut self, version: u32, in_block: &mut bool, messages: &[&'a [u8]], spans: &[Span]);
     fn write(&self, version: u32, out: &mut [u8]) -> Totals;
     fn steps(&self) -> Totals;
+    /// Reads the binary values of the batch by the types of each message's columns, to be written (not measured): each one's flat form.
+    fn fill_values(&mut self, types: &[&'static [u32]]) -> Vec<Result<[u64; 3], Refused>>;
+    /// Reads them again.
+    fn values(&self) -> Totals;
+    fn write_values(&self, out: &mut [u8]) -> Totals;
     /// Copies the session that `session_give` was given to (not measured).
     fn copy_session(&mut self);
     fn give_copies(&mut self, message: &[u8]) -> Totals;

@@ -22,17 +22,23 @@ pub struct Feed<'a> {
     /// The same for C.
     pub spans: Vec<Span>,
     pub bytes: usize,
+    /// By which types the binary values of each message are read, where they are.
+    pub types: Vec<&'static [u32]>,
 }
 
 impl<'a> Feed<'a> {
     pub fn new(name: String, version: u32, messages: Vec<&'a [u8]>) -> Feed<'a> {
         let spans = messages.iter().map(|message| Span::of(message)).collect();
         let bytes = messages.iter().map(|message| message.len()).sum();
-        Feed { name, version, messages, spans, bytes }
+        Feed { name, version, messages, spans, bytes, types: vec![] }
     }
 
     pub fn of(made: &'a Made) -> Feed<'a> {
         Feed::new(made.name.clone(), made.version, made.messages.iter().map(|message| &message[..]).collect())
+    }
+
+    pub fn with_types(self, types: Vec<&'static [u32]>) -> Feed<'a> {
+        Feed { types, ..self }
     }
 
     /// How many bytes the records of all changes in blocks have, where there are no others.
@@ -60,4 +66,8 @@ pub struct Feeds<'a> {
     pub open_imports: Feed<'a>,
     /// Two imports of which one commits, shorter and longer ones.
     pub releases: Vec<Feed<'a>>,
+    /// A recorded feed of binary values.
+    pub binary: Feed<'a>,
+    /// The same with bytes changed, and read by the types of other columns.
+    pub mistaken: Vec<Feed<'a>>,
 }

@@ -22,6 +22,7 @@ mod rust;
 mod spread;
 mod stream;
 mod tasks;
+mod values;
 
 use feed::{Feed, Feeds};
 use measure::Contenders;
@@ -50,11 +51,12 @@ fn check_and_tell<'a>(contenders: &mut Contenders<'a>, feeds: &Feeds<'a>) {
     for feed in &feeds.ends {
         accepted(feed);
     }
-    for feed in [&feeds.imports, &feeds.open_imports].into_iter().chain(&feeds.releases) {
+    for feed in [&feeds.imports, &feeds.open_imports, &feeds.binary].into_iter().chain(&feeds.releases) {
         assert_eq!(accepted(feed), feed.messages.len(), "{}: all is accepted", feed.name);
     }
     println!("all agree on every message, and on two damaged copies of each");
     check_keepers(contenders, feeds);
+    check_values(contenders, feeds);
 }
 
 /// With room for all, and with too little for the imports.
@@ -72,6 +74,19 @@ fn check_keepers<'a>(contenders: &mut Contenders<'a>, feeds: &Feeds<'a>) {
     println!("all agree on every reply, and on all that is released");
 }
 
+fn check_values<'a>(contenders: &mut Contenders<'a>, feeds: &Feeds<'a>) {
+    let mut agree = |feed: &Feed<'a>| {
+        let [accepted, refused] = check::agree_values(contenders, feed);
+        println!("{}: {accepted} binary values are accepted, {refused} are refused", feed.name);
+        refused
+    };
+    assert_eq!(agree(&feeds.binary), 0);
+    for feed in &feeds.mistaken {
+        assert!(agree(feed) > 0);
+    }
+    println!("all agree on every value");
+}
+
 fn main() {
     placement::stand();
     let words: Vec<String> = std::env::args().skip(1).collect();
@@ -86,6 +101,8 @@ fn main() {
     let imports = imports::imports(&parts);
     let open_imports = imports::open_imports(&parts, 2_000);
     let releases = RELEASED.map(|changes| imports::committed_import(&parts, changes));
+    let binary = values::recorded();
+    let changed = values::changed(&binary);
     let name = std::path::Path::new(path).file_name().unwrap().display().to_string();
     let feeds = Feeds {
         recorded: Feed::new(name, version, messages),
@@ -94,6 +111,8 @@ fn main() {
         imports: Feed::of(&imports),
         open_imports: Feed::of(&open_imports),
         releases: releases.iter().map(Feed::of).collect(),
+        mistaken: vec![values::with_types_of(&changed, &binary), values::by_other_types(&binary)],
+        binary,
     };
 
     let mut contenders: Contenders = vec![Box::new(ours::Ours::new()), Box::new(rust::Rust::new()), Box::new(c::C::new())];

@@ -10,6 +10,8 @@ pub struct Ours<'a> {
     kept: Kept,
     kept_copy: Kept,
     batch: Vec<Read<'a>>,
+    types: Vec<&'static [u32]>,
+    values: Vec<Value<'a>>,
 }
 
 /// A session with a keeper.
@@ -35,12 +37,16 @@ struct Read<'a> {
     bytes: &'a [u8],
 }
 
+/// A binary value that was read, and its message.
+type Value<'a> = ([u64; ffi::VALUE_FLAT], &'a [u8]);
+
 const NEW_TUPLE: u32 = 0;
 const OLD_TUPLE: u32 = 1;
 
 impl Ours<'_> {
     pub fn new() -> Self {
-        Ours { session: Record::ZERO, copies: vec![], kept: Kept::NONE, kept_copy: Kept::NONE, batch: vec![] }
+        let (session, kept, kept_copy) = (Record::ZERO, Kept::NONE, Kept::NONE);
+        Ours { session, copies: vec![], kept, kept_copy, batch: vec![], types: vec![], values: vec![] }
     }
 }
 
@@ -52,14 +58,59 @@ fn settle<T>(number: u32, offset: u64, value: T) -> Result<T, Refused> {
     }
 }
 
-/// Steps through the tuple at an offset, which starts with its count.
-fn step_through(section: u32, bytes: &[u8], start: u64, totals: &mut Totals) {
+/// The first column of the tuple at an offset, which starts with its count.
+fn first_column(bytes: &[u8], start: u64) -> [u64; 2] {
     let at = start as usize;
-    let mut position = [start + 2, u16::from_be_bytes([bytes[at], bytes[at + 1]]).into()];
+    [start + 2, u16::from_be_bytes([bytes[at], bytes[at + 1]]).into()]
+}
+
+/// The sections that are tuples, and where these start.
+fn tuples(flat: &[u64; ffi::FLAT], mut each: impl FnMut(u32, u64)) {
+    match *flat {
+        [6, _, _, new, ..] => each(NEW_TUPLE, new),
+        [7, _, _, letter, old, new, ..] => {
+            if letter != 0 {
+                each(OLD_TUPLE, old);
+            }
+            each(NEW_TUPLE, new);
+        }
+        [8, _, _, _, old, ..] => each(OLD_TUPLE, old),
+        _ => {}
+    }
+}
+
+fn step_through(section: u32, bytes: &[u8], start: u64, totals: &mut Totals) {
+    let mut position = first_column(bytes, start);
     let mut column = [0; ffi::STEP];
     while ffi::column_step(section, bytes, &mut position, &mut column) == 0 {
         totals.accepted += 1;
         totals.sum += column[2];
+    }
+}
+
+/// What `value_step` gives for each binary column of a tuple; one that it refuses is stepped past.
+fn values_of(section: u32, bytes: &[u8], start: u64, types: &[u32], mut each: impl FnMut(u32, &[u64; ffi::VALUE_FLAT])) {
+    let mut position = first_column(bytes, start);
+    let mut value = [0; ffi::VALUE_FLAT];
+    let mut column = [0; ffi::STEP];
+    for type_oid in types.iter().take(position[1] as usize) {
+        if bytes[position[0] as usize] == b'b' {
+            let number = ffi::value_step(bytes, &mut position, *type_oid, &mut value);
+            each(number, &value);
+            if number == 0 {
+                continue;
+            }
+        }
+        ffi::column_step(section, bytes, &mut position, &mut column);
+    }
+}
+
+fn count_value(number: u32, value: &[u64; ffi::VALUE_FLAT], totals: &mut Totals) {
+    black_box(value);
+    if number == 0 {
+        totals.accepted += 1;
+    } else {
+        totals.refused += 1;
     }
 }
 
@@ -187,18 +238,58 @@ impl<'a> Contender<'a> for Ours<'a> {
     fn steps(&self) -> Totals {
         let mut totals = Totals::default();
         for Read { flat, bytes, .. } in &self.batch {
-            match *flat {
-                [6, _, _, new, ..] => step_through(NEW_TUPLE, bytes, new, &mut totals),
-                [7, _, _, letter, old, new, ..] => {
-                    if letter != 0 {
-                        step_through(OLD_TUPLE, bytes, old, &mut totals);
-                    }
-                    step_through(NEW_TUPLE, bytes, new, &mut totals);
+            tuples(flat, |section, start| step_through(section, bytes, start, &mut totals));
+        }
+        totals
+    }
+
+    fn fill_values(&mut self, types: &[&'static [u32]]) -> Vec<Result<[u64; 3], Refused>> {
+        let mut all = vec![];
+        self.types = types.to_vec();
+        self.values.clear();
+        for (Read { flat, bytes, .. }, types) in self.batch.iter().zip(types) {
+            let mut each = |number, value: &[u64; ffi::VALUE_FLAT]| {
+                all.push(settle(number, value[0], *value));
+                if number == 0 {
+                    self.values.push((*value, bytes));
                 }
-                [8, _, _, _, old, ..] => step_through(OLD_TUPLE, bytes, old, &mut totals),
-                _ => {}
+            };
+            tuples(flat, |section, start| values_of(section, bytes, start, types, &mut each));
+        }
+        all
+    }
+
+    fn values(&self) -> Totals {
+        let mut totals = Totals::default();
+        for (Read { flat, bytes, .. }, types) in self.batch.iter().zip(&self.types) {
+            tuples(flat, |section, start| values_of(section, bytes, start, types, |number, value| count_value(number, value, &mut totals)));
+        }
+        totals
+    }
+
+    fn written_value(&self, index: usize, out: &mut [u8]) -> Result<u64, Refused> {
+        let (value, source) = &self.values[index];
+        let mut result = 0;
+        let number = ffi::value_write(value, source, out, &mut result);
+        settle(number, result, result)
+    }
+
+    fn write_values(&self, out: &mut [u8]) -> Totals {
+        let mut totals = Totals::default();
+        let mut at = 0;
+        let mut result = 0;
+        for (value, source) in &self.values {
+            let number = ffi::value_write(value, source, &mut out[at..], &mut result);
+            black_box(&result);
+            if number == 0 {
+                totals.accepted += 1;
+                at += result as usize;
+            } else {
+                totals.refused += 1;
             }
         }
+        black_box(out);
+        totals.sum = at as u64;
         totals
     }
 

@@ -1,7 +1,8 @@
 //! The Rust baseline.
 use crate::contender::{Contender, Refused, Totals, COPIES};
 use crate::feed::{Feed, Span};
-use baseline::{read_message, write_message, Announcement, Column, Keeper, Message, Refusal, Session, Tuple};
+use baseline::{read_message, read_value, write_message, write_value};
+use baseline::{Announcement, Column, Keeper, Message, Refusal, Session, Tuple, Value};
 use std::hint::black_box;
 
 pub struct Rust<'a> {
@@ -10,12 +11,25 @@ pub struct Rust<'a> {
     kept: (Session, Keeper),
     kept_copy: (Session, Keeper),
     batch: Vec<(bool, Message<'a>)>,
+    /// The bytes of the batch's messages.
+    sources: Vec<&'a [u8]>,
+    types: Vec<&'static [u32]>,
+    values: Vec<Value<'a>>,
 }
 
 impl Rust<'_> {
     pub fn new() -> Self {
         let none = (Session::new(1), Keeper::new(0));
-        Rust { session: Session::new(1), copies: vec![], kept: none.clone(), kept_copy: none, batch: vec![] }
+        Rust {
+            session: Session::new(1),
+            copies: vec![],
+            kept: none.clone(),
+            kept_copy: none,
+            batch: vec![],
+            sources: vec![],
+            types: vec![],
+            values: vec![],
+        }
     }
 }
 
@@ -75,6 +89,51 @@ fn flat(message: &Message<'_>, bytes: &[u8]) -> [u64; 16] {
     let mut flat = [0; 16];
     flat[..numbers.len()].copy_from_slice(&numbers);
     flat
+}
+
+/// The numbers of a value, by where its bytes start in the message where it is raw.
+fn flat_value(value: Value<'_>, start: u64) -> [u64; 3] {
+    match value {
+        Value::Bool(truth) => [16, truth.into(), 0],
+        Value::Int2(number) => [21, (number as u16).into(), 0],
+        Value::Int4(number) => [23, (number as u32).into(), 0],
+        Value::Int8(number) => [20, number as u64, 0],
+        Value::Float4(number) => [700, number.to_bits().into(), 0],
+        Value::Float8(number) => [701, number.to_bits(), 0],
+        Value::TimestampTz(number) => [1184, number as u64, 0],
+        Value::Raw(bytes) => [0, start, bytes.len() as u64],
+    }
+}
+
+fn tuples<'a>(message: &Message<'a>, mut each: impl FnMut(Tuple<'a>)) {
+    match *message {
+        Message::Insert { new, .. } => each(new),
+        Message::Update { old, new, .. } => {
+            if let Some((_, old)) = old {
+                each(old);
+            }
+            each(new);
+        }
+        Message::Delete { old, .. } => each(old),
+        _ => {}
+    }
+}
+
+/// Each binary column of a tuple: its bytes, and what they are read as.
+fn values_of<'a>(tuple: Tuple<'a>, types: &[u32], mut each: impl FnMut(&'a [u8], &baseline::Result<Value<'a>>)) {
+    for (column, type_oid) in tuple.columns().zip(types) {
+        if let Column::Binary(bytes) = column {
+            each(bytes, &read_value(*type_oid, bytes));
+        }
+    }
+}
+
+fn count_value(value: &baseline::Result<Value<'_>>, totals: &mut Totals) {
+    black_box(value);
+    match value {
+        Ok(_) => totals.accepted += 1,
+        Err(_) => totals.refused += 1,
+    }
 }
 
 fn step_through(tuple: Tuple<'_>, totals: &mut Totals) {
@@ -179,9 +238,11 @@ impl<'a> Contender<'a> for Rust<'a> {
 
     fn fill(&mut self, version: u32, in_block: &mut bool, messages: &[&'a [u8]], _: &[Span]) {
         self.batch.clear();
+        self.sources.clear();
         for bytes in messages {
             if let Ok(message) = read_message(version, *in_block, bytes) {
                 self.batch.push((*in_block, message));
+                self.sources.push(bytes);
                 *in_block = block_after(*in_block, &message);
             }
         }
@@ -209,18 +270,54 @@ impl<'a> Contender<'a> for Rust<'a> {
     fn steps(&self) -> Totals {
         let mut totals = Totals::default();
         for (_, message) in &self.batch {
-            match *message {
-                Message::Insert { new, .. } => step_through(new, &mut totals),
-                Message::Update { old, new, .. } => {
-                    if let Some((_, old)) = old {
-                        step_through(old, &mut totals);
-                    }
-                    step_through(new, &mut totals);
+            tuples(message, |tuple| step_through(tuple, &mut totals));
+        }
+        totals
+    }
+
+    fn fill_values(&mut self, types: &[&'static [u32]]) -> Vec<Result<[u64; 3], Refused>> {
+        let mut all = vec![];
+        self.types = types.to_vec();
+        self.values.clear();
+        for (((_, message), source), types) in self.batch.iter().zip(&self.sources).zip(types) {
+            let mut each = |bytes: &'a [u8], value: &baseline::Result<_>| {
+                let start = bytes.as_ptr() as u64 - source.as_ptr() as u64;
+                all.push(value.map(|value| flat_value(value, start)).map_err(|why| (why.number.into(), start + why.offset as u64)));
+                self.values.extend(value);
+            };
+            tuples(message, |tuple| values_of(tuple, types, &mut each));
+        }
+        all
+    }
+
+    fn values(&self) -> Totals {
+        let mut totals = Totals::default();
+        for ((_, message), types) in self.batch.iter().zip(&self.types) {
+            tuples(message, |tuple| values_of(tuple, types, |_, value| count_value(value, &mut totals)));
+        }
+        totals
+    }
+
+    fn written_value(&self, index: usize, out: &mut [u8]) -> Result<u64, Refused> {
+        write_value(&self.values[index], out).map(|length| length as u64).map_err(refused)
+    }
+
+    fn write_values(&self, out: &mut [u8]) -> Totals {
+        let mut totals = Totals::default();
+        let mut at = 0;
+        for value in &self.values {
+            let written = write_value(value, &mut out[at..]);
+            black_box(&written);
+            match written {
+                Ok(length) => {
+                    totals.accepted += 1;
+                    at += length;
                 }
-                Message::Delete { old, .. } => step_through(old, &mut totals),
-                _ => {}
+                Err(_) => totals.refused += 1,
             }
         }
+        black_box(out);
+        totals.sum = at as u64;
         totals
     }
 

@@ -2,6 +2,7 @@
 use crate::contender::{touched, Contender, Totals, BATCH, COPIES};
 use crate::feed::{Feed, Feeds};
 use crate::stream::end_of;
+use crate::values::binary_columns;
 use std::hint::black_box;
 use std::time::{Duration, Instant};
 
@@ -12,7 +13,7 @@ pub struct Task<'f, 'a> {
     pub title: String,
     pub feed: &'f Feed<'a>,
     pub run: Run<'a>,
-    /// How many messages a run times, and their bytes.
+    /// How many messages (or values, where the title says so) a run times, and their bytes.
     pub messages: usize,
     pub bytes: usize,
 }
@@ -39,6 +40,11 @@ impl<'f, 'a> Task<'f, 'a> {
         [Task::whole(&alone, feed, session), Task::whole(&kept, feed, keeping)]
     }
 
+    fn values(title: &str, feed: &'f Feed<'a>, run: Run<'a>) -> Self {
+        let sizes: Vec<_> = feed.messages.iter().flat_map(|message| binary_columns(feed.version, message)).map(<[u8]>::len).collect();
+        Task { title: format!("{title} (ns/value)"), feed, run, messages: sizes.len(), bytes: sizes.iter().sum() }
+    }
+
     fn release(feed: &'f Feed<'a>) -> Self {
         Task { title: feed.name.clone(), feed, run: releasing, messages: RELEASES, bytes: RELEASES * feed.records() }
     }
@@ -53,6 +59,8 @@ pub fn tasks<'f, 'a>(feeds: &'f Feeds<'a>) -> Vec<Task<'f, 'a>> {
     tasks.extend(feeds.releases.iter().map(Task::release));
     tasks.push(Task::whole("writing back", &feeds.recorded, writing));
     tasks.push(Task::whole("stepping through all columns", &feeds.recorded, stepping));
+    tasks.push(Task::values("reading binary values", &feeds.binary, reading_values));
+    tasks.push(Task::values("writing binary values back", &feeds.binary, writing_values));
     tasks
 }
 
@@ -134,6 +142,20 @@ fn batches<'a>(
     all(feed.messages.chunks(BATCH).zip(feed.spans.chunks(BATCH)).map(batch))
 }
 
+/// The same of a feed with no blocks, and the batch's binary values are read too before.
+fn value_batches<'a>(
+    contender: &mut dyn Contender<'a>,
+    feed: &Feed<'a>,
+    mut run: impl FnMut(&mut dyn Contender<'a>) -> Totals,
+) -> (Duration, Totals) {
+    let batch = |((messages, spans), types): ((&[&'a [u8]], _), _)| {
+        contender.fill(feed.version, &mut false, messages, spans);
+        contender.fill_values(types);
+        timed(|| run(contender))
+    };
+    all(feed.messages.chunks(BATCH).zip(feed.spans.chunks(BATCH)).zip(feed.types.chunks(BATCH)).map(batch))
+}
+
 /// Room for the messages of any batch.
 fn output(feed: &Feed) -> Vec<u8> {
     let sizes = feed.messages.chunks(BATCH).map(|batch| batch.iter().map(|message| message.len()).sum());
@@ -147,6 +169,15 @@ fn writing<'a>(contender: &mut dyn Contender<'a>, feed: &Feed<'a>) -> (Duration,
 
 fn stepping<'a>(contender: &mut dyn Contender<'a>, feed: &Feed<'a>) -> (Duration, Totals) {
     batches(contender, feed, |contender| contender.steps())
+}
+
+fn reading_values<'a>(contender: &mut dyn Contender<'a>, feed: &Feed<'a>) -> (Duration, Totals) {
+    value_batches(contender, feed, |contender| contender.values())
+}
+
+fn writing_values<'a>(contender: &mut dyn Contender<'a>, feed: &Feed<'a>) -> (Duration, Totals) {
+    let mut out = output(feed);
+    value_batches(contender, feed, |contender| contender.write_values(&mut out))
 }
 
 /// The limit: each message copied by memcpy, a batch at a time.

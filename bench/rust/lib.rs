@@ -6,11 +6,13 @@ mod cursor;
 mod keeper;
 mod read;
 mod session;
+mod value;
 mod write;
 
 pub use keeper::Keeper;
 pub use read::read_message;
 pub use session::{Announcement, Session};
+pub use value::{read_value, write_value, Value};
 pub use write::write_message;
 
 pub const LARGEST: usize = 1_073_741_823;
@@ -38,6 +40,7 @@ impl Refusal {
     pub const STREAMS: u8 = 12;
     pub const OUTPUT: u8 = 13;
     pub const KEEPER: u8 = 14;
+    pub const VALUE: u8 = 17;
 }
 
 pub type Result<T> = std::result::Result<T, Refusal>;
