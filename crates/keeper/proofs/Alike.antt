@@ -12,7 +12,7 @@ use Rattle.session.specs.declared.Place.{Place}
 use Rattle.session.specs.declared.Place.the-variants.{Idle, Transaction, Block}
 use Rattle.session.specs.Events.{Event}
 use Rattle.session.specs.History.{given, Entry, entry, History, place}
-use Rattle.session.proofs.Tests.{and-parts}
+use Rattle.wire.proofs.Tests.{and-parts}
 use Rattle.session.proofs.Alike as session
 use Rattle.session.proofs.Stays.{Inner, origin, relation, change, truncate, neutral, logical, stop, Turn, starts, goes, onto, Along, Blocks, second-before, first-behind, either-alike}
 use Rattle.keeper.specs.Rules.{Kept, kept, isOf, without, Doing, nothing, keeps, frees, drops, doing, joined, isDropped, keptAfter, keptIn, releasedBy, size, sizes, ruled, judgeKept}

@@ -13,7 +13,7 @@ use Rattle.session.specs.Events.{Event, Begin, Commit, Origin, Relation,
 use Rattle.session.specs.History.{unannounced, isAnnounced, orElse, Given, tagOf, shown, entry, History, place, isIdle, holderAt, isOpen, openCount, isChanged, held, liveCount}
 use Rattle.session.specs.Rules.{rooms, sightOf, test, ruleRelation, ruleStreamStart, ruleStreamEnd, judge, accepts}
 use Rattle.session.specs.State.{Layout, StateOf, freshBy, sightBy, changedAt, answerBy, flaggedAt, markedAt, streamsAfter, stateBy}
-use Rattle.session.proofs.Tests.{not-true}
+use Rattle.wire.proofs.Tests.{not-true}
 use Rattle.session.proofs.Formed.{NonZero, Formed}
 use Rattle.session.proofs.Lawful.{Lawful}
 use Rattle.session.proofs.Sights.{Same, same-judged}

@@ -12,7 +12,7 @@ use Rattle.session.specs.declared.Place.{Place}
 use Rattle.session.specs.Events.{Begin, Commit, Origin, Relation, Change, Truncate, Neutral, Logical, StreamStart, StreamStop, StreamCommit, StreamAbort}
 use Rattle.session.specs.History.{Announced, unannounced, announced, isAnnounced, orElse, entry, History, shown, place, inBlock, inTransaction, holderAt, own, common, held, pairs, isLive, liveCount}
 use Rattle.session.specs.State.{Layout}
-use Rattle.session.proofs.Tests.{and-parts}
+use Rattle.wire.proofs.Tests.{and-parts}
 use Rattle.session.proofs.Lawful.{Lawful}
 use Rattle.session.proofs.Rows.{Agrees}
 

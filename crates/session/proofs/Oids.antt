@@ -10,7 +10,7 @@ use Rattle.wire.specs.Fields.{numberField, narrow32}
 use Rattle.session.specs.Events.{oidsAt}
 use Rattle.session.specs.History.{Announced, unannounced, isAnnounced}
 use Rattle.session.specs.Rules.{allSeen, firstSeen}
-use Rattle.session.proofs.Tests.{not-true, not-false}
+use Rattle.wire.proofs.Tests.{not-true, not-false}
 
 module _ (see : ℕ → Announced) (xs : List ℕ) (c : Cursor) where
   -- none

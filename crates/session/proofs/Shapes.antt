@@ -8,7 +8,7 @@ use Rattle.session.specs.declared.Tuples.{Tuples}
 use Rattle.session.specs.Events.{tuple}
 use Rattle.session.specs.Rules.{fits, allFit}
 use Rattle.session.specs.Acts.{tuplesOf}
-use Rattle.session.proofs.Tests.{and-true}
+use Rattle.wire.proofs.Tests.{and-true}
 
 -- a tuple
 module _ (identity columns letter count : ℕ) where

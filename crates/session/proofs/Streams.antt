@@ -13,7 +13,7 @@ use Rattle.catalog.proofs.Opens as law
 use Rattle.catalog.proofs.Opens.{Sound, is-eq, is-refl}
 use Rattle.session.specs.Events.{Begin, Commit, Origin, Relation, Change, Truncate, Neutral, Logical, StreamStart, StreamStop, StreamCommit, StreamAbort}
 use Rattle.session.specs.History.{Given, entry, History, isOpen, started, openCount, isChanged}
-use Rattle.session.proofs.Tests.{and-parts}
+use Rattle.wire.proofs.Tests.{and-parts}
 use Rattle.session.proofs.Formed.{NonZero}
 
 pub record Agrees (s : Streams) (h : History) : Type 0 where

@@ -26,7 +26,7 @@ use Rattle.session.specs.History.{Given, bytesOf, tagOf, Entry, entry, H
 use Rattle.session.specs.Rules.{rooms, judge, accepts, Heard, unread, heard, heardOf, hears}
 use Rattle.session.specs.State.{State, sorted, freshBy, stateBy}
 use Rattle.session.specs.Turns.{ToStop, stops, goes, BlockOf, starts, getsAfter, EitherOrder}
-use Rattle.session.proofs.Tests.{and-parts}
+use Rattle.wire.proofs.Tests.{and-parts}
 use Rattle.session.proofs.Formed.{NonZero}
 use Rattle.session.proofs.Lawful.{sorted-lawful}
 use Rattle.session.proofs.Agreement.{fresh, kept}

@@ -1,13 +1,14 @@
 -- BOTH ROUND TRIPS of a binary value, for every position, type and place in a list. Assumes nothing.
 use Prim.Native.Nat.{ℕ, suc, _+_, _-_, _≤_}
 use mathlib.Core.List.{List, [], _∷_}
-use mathlib.Core.Bool.{Bool, true, false, cond, _&&_, _||_}
+use mathlib.Core.Bool.{Bool, true, false, cond, _||_}
 use mathlib.Core.Path.{_≡_, refl, sym, ap, subst, _∙_}
 use native.Mathlib.Omega.{arith}
 use borrow.Author.Tests.{le-leb, leb-true, eqb-true}
 use lib.Dec.{eqb, leb}
 use lib.ListN.{length}
 use Rattle.wire.specs.Numbers.{be}
+use Rattle.wire.proofs.Tests.{and-parts}
 use Rattle.message.specs.Encode.{digits, cut}
 use Rattle.message.specs.Write.{bytes}
 use Rattle.message.proofs.Again.{digits-be}
@@ -32,11 +33,6 @@ use Rattle.values.proofs.Typed.{is-raw}
 use Rattle.values.proofs.InColumn.{content, stands, number-stands}
 
 -- READ, THEN WRITTEN
-
-both : (a b : Bool) → a && b ≡ true → (a ≡ true) × (b ≡ true)
-both true true e = (refl, refl)
-both true false e = let z : _≡_ {A = ℕ} 0 1 = cc in absurd (omega arith)
-both false b e = let z : _≡_ {A = ℕ} 0 1 = cc in absurd (omega arith)
 
 -- the number that a value's bytes spell
 abbrev number : List Byte → ValueKind → ℕ → ℕ
@@ -78,7 +74,7 @@ write-after-read xs p oid x q = go (stepped binary (numbers xs) p) refl q
         → cond b (c.Value (valueOf y s n (number xs y s))) (c.Refused 17 s) ≡ c.Value x → GivenBy (numbers xs) p oid x
     is s n e g l true t q =
         let same : valueOf y s n (number xs y s) ≡ x = cc in
-        let f = both (hasWidth y n) (leb (number xs y s) (rowOf y .most)) t in
+        let f = and-parts (hasWidth y n) (leb (number xs y s) (rowOf y .most)) t in
         let m = leb-true (number xs y s) (rowOf y .most) (f .1) in
         record {
           s = s;

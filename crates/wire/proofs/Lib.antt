@@ -5,3 +5,4 @@ pub mod Signed
 pub mod Values
 pub mod There
 pub mod Bits
+pub mod Tests
