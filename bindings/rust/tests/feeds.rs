@@ -1,12 +1,17 @@
 //! The recorded feeds of `crates/feeds`, each given to a fresh session and to one with a keeper: the answers are those that its program
-//! prints. What is released of the streamed ones follows from the list of messages. Their blocks are exchanged as that program does it.
+//! prints. What is released of the streamed ones follows from the list of messages. Their binary values are summed, and their blocks
+//! exchanged, as that program does it.
 use kitsoriqu::{read, write, Answer, Decoded, Keeper, Message, Record, Refusal, Reply, Session};
 use std::fmt::Write;
 use std::fs;
 use std::path::Path;
 
+#[path = "support/sums.rs"]
+mod sums;
 #[path = "support/trace.rs"]
 mod trace;
+#[path = "support/tuples.rs"]
+mod tuples;
 
 const FEEDS: &str = concat!(env!("CARGO_MANIFEST_DIR"), "/../../crates/feeds");
 
@@ -84,7 +89,7 @@ fn feed(name: &str) -> String {
     let messages = trace::messages(&bytes).unwrap();
     let version = trace::version(name).unwrap();
     back(version, &messages);
-    format!("{name}\n{}", answers(version, &messages))
+    format!("{name}\n{}{}", answers(version, &messages), sums::lines(version, &messages))
 }
 
 #[test]

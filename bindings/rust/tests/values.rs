@@ -1,5 +1,5 @@
 //! The recorded feed with binary values: each one, read by the type in its Relation, is what Rust's conversions make of it.
-use kitsoriqu::{read, Column, Message, OldTuple, Refusal, RelationColumn, Tuple, Value};
+use kitsoriqu::{read, Column, Message, Refusal, RelationColumn, Tuple, Value};
 use std::collections::BTreeMap;
 
 #[path = "compare/layouts.rs"]
@@ -8,10 +8,13 @@ mod layouts;
 #[path = "support/trace.rs"]
 #[allow(dead_code)]
 mod trace;
+#[path = "support/tuples.rs"]
+mod tuples;
 #[path = "compare/typed.rs"]
 #[allow(dead_code)]
 mod typed;
 use layouts::Reader;
+use tuples::tuples;
 
 const TRACE: &[u8] = include_bytes!("../../../crates/feeds/data/binary.v1b.trace");
 
@@ -69,15 +72,6 @@ fn compare_value(value: Value, part: &[u8], type_oid: u32, bytes: &[u8]) {
     assert_eq!(value.write(&mut out), Ok(part.len()));
     assert_eq!(&out[..part.len()], part);
     assert!(out[part.len()..].iter().all(|&byte| byte == 0xAA));
-}
-
-fn tuples(message: Message) -> Vec<Tuple> {
-    match message {
-        Message::Insert { new, .. } | Message::Update { old: None, new, .. } => vec![new],
-        Message::Update { old: Some(OldTuple::Key(old) | OldTuple::Full(old)), new, .. } => vec![old, new],
-        Message::Delete { old: OldTuple::Key(old) | OldTuple::Full(old), .. } => vec![old],
-        _ => vec![],
-    }
 }
 
 #[test]
