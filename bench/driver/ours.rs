@@ -37,6 +37,26 @@ struct Read<'a> {
     bytes: &'a [u8],
 }
 
+/// Writes each, one behind the other.
+fn write_each<T>(items: &[T], out: &mut [u8], write: impl Fn(&T, &mut [u8], &mut u64) -> u32) -> Totals {
+    let mut totals = Totals::default();
+    let mut at = 0;
+    let mut result = 0;
+    for item in items {
+        let number = write(item, &mut out[at..], &mut result);
+        black_box(&result);
+        if number == 0 {
+            totals.accepted += 1;
+            at += result as usize;
+        } else {
+            totals.refused += 1;
+        }
+    }
+    black_box(out);
+    totals.sum = at as u64;
+    totals
+}
+
 /// A binary value that was read, and its message.
 type Value<'a> = ([u64; ffi::VALUE_FLAT], &'a [u8]);
 
@@ -217,22 +237,8 @@ impl<'a> Contender<'a> for Ours<'a> {
     }
 
     fn write(&self, version: u32, out: &mut [u8]) -> Totals {
-        let mut totals = Totals::default();
-        let mut at = 0;
-        let mut result = 0;
-        for Read { flat, in_block, bytes } in &self.batch {
-            let number = ffi::write(version, *in_block, flat, bytes, &mut out[at..], &mut result);
-            black_box(&result);
-            if number == 0 {
-                totals.accepted += 1;
-                at += result as usize;
-            } else {
-                totals.refused += 1;
-            }
-        }
-        black_box(out);
-        totals.sum = at as u64;
-        totals
+        let write = |read: &Read, out: &mut [u8], result: &mut u64| ffi::write(version, read.in_block, &read.flat, read.bytes, out, result);
+        write_each(&self.batch, out, write)
     }
 
     fn steps(&self) -> Totals {
@@ -275,22 +281,7 @@ impl<'a> Contender<'a> for Ours<'a> {
     }
 
     fn write_values(&self, out: &mut [u8]) -> Totals {
-        let mut totals = Totals::default();
-        let mut at = 0;
-        let mut result = 0;
-        for (value, source) in &self.values {
-            let number = ffi::value_write(value, source, &mut out[at..], &mut result);
-            black_box(&result);
-            if number == 0 {
-                totals.accepted += 1;
-                at += result as usize;
-            } else {
-                totals.refused += 1;
-            }
-        }
-        black_box(out);
-        totals.sum = at as u64;
-        totals
+        write_each(&self.values, out, |(value, source), out, result| ffi::value_write(value, source, out, result))
     }
 
     fn copy_session(&mut self) {

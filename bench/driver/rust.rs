@@ -174,6 +174,26 @@ fn numbers(seen: Option<Announcement>) -> [u64; 4] {
     seen.map_or([0; 4], |seen| [1, seen.tag, seen.identity.into(), seen.columns.into()])
 }
 
+/// Writes each, one behind the other.
+fn write_each<T, E>(items: &[T], out: &mut [u8], write: impl Fn(&T, &mut [u8]) -> Result<usize, E>) -> Totals {
+    let mut totals = Totals::default();
+    let mut at = 0;
+    for item in items {
+        let written = write(item, &mut out[at..]);
+        black_box(&written);
+        match written {
+            Ok(length) => {
+                totals.accepted += 1;
+                at += length;
+            }
+            Err(_) => totals.refused += 1,
+        }
+    }
+    black_box(out);
+    totals.sum = at as u64;
+    totals
+}
+
 impl<'a> Contender<'a> for Rust<'a> {
     fn name(&self) -> &'static str {
         "Rust"
@@ -249,22 +269,7 @@ impl<'a> Contender<'a> for Rust<'a> {
     }
 
     fn write(&self, version: u32, out: &mut [u8]) -> Totals {
-        let mut totals = Totals::default();
-        let mut at = 0;
-        for (in_block, message) in &self.batch {
-            let written = write_message(version, *in_block, message, &mut out[at..]);
-            black_box(&written);
-            match written {
-                Ok(length) => {
-                    totals.accepted += 1;
-                    at += length;
-                }
-                Err(_) => totals.refused += 1,
-            }
-        }
-        black_box(out);
-        totals.sum = at as u64;
-        totals
+        write_each(&self.batch, out, |(in_block, message), out| write_message(version, *in_block, message, out))
     }
 
     fn steps(&self) -> Totals {
@@ -303,22 +308,7 @@ impl<'a> Contender<'a> for Rust<'a> {
     }
 
     fn write_values(&self, out: &mut [u8]) -> Totals {
-        let mut totals = Totals::default();
-        let mut at = 0;
-        for value in &self.values {
-            let written = write_value(value, &mut out[at..]);
-            black_box(&written);
-            match written {
-                Ok(length) => {
-                    totals.accepted += 1;
-                    at += length;
-                }
-                Err(_) => totals.refused += 1,
-            }
-        }
-        black_box(out);
-        totals.sum = at as u64;
-        totals
+        write_each(&self.values, out, write_value)
     }
 
     fn copy_session(&mut self) {
