@@ -10,17 +10,17 @@ use Rattle.wire.specs.declared.Cursor.the-variants.{At}
 use Rattle.wire.specs.declared.Field8.{Field8}
 use Rattle.wire.specs.Fields.{letterField, positionOf}
 use Rattle.message.specs.declared.OldTuple.the-variants as old
-use Rattle.message.specs.Layout.{Field, groupsEnd, tupleEnd, Optional, optional, readFields}
-use Rattle.message.specs.Kinds.{Kind, begin, commit, origin, relation, type, insert, update, delete, truncate, message, streamStart, streamStop, streamCommit, streamAbort, layout, columnFields, id, keyOrOld}
+use Rattle.message.specs.Layout.{id, Field, groupsEnd, tupleEnd, Optional, optional, readFields}
+use Rattle.message.specs.Kinds.{Kind, begin, commit, origin, relation, type, insert, update, delete, truncate, message, streamStart, streamStop, streamCommit, streamAbort, layout, columnFields, keyOrOld}
 use Rattle.message.specs.Messages.{messageOf, oldTuple}
 use Rattle.message.proofs.Accepted.{reached}
+use Rattle.message.proofs.Local.{letter-local, groups-local, tuple-local}
 use Rattle.columns.specs.declared.Position.{Position}
 use Rattle.columns.specs.declared.Contents.{Contents}
 use Rattle.columns.specs.declared.Found.{Found}
 use Rattle.columns.specs.declared.Found.the-variants as found
 use Rattle.columns.specs.declared.Started.the-variants as started
 use Rattle.columns.specs.Starts.{absent, at, oldOffset, withTuples, contentsOf}
-use Rattle.columns.proofs.Stays.{letter-stays, groups-stay, tuple-stays}
 
 module _ (xs : List ℕ) where
   -- a tuple, or groups, that lie there whole
@@ -53,13 +53,13 @@ module _ (xs : List ℕ) where
   -- a tuple that reading got past lies where reading stood
   tuple-here : (c : Cursor) (e : ℕ) → tupleEnd xs c ≡ At e → (start : ℕ) → found.At (positionOf c) ≡ found.At start → TupleAt start
   tuple-here c e q start p =
-      let r = reached (tupleEnd xs) (tuple-stays xs) c q in
+      let r = reached (tupleEnd xs) (tuple-local .stays xs) c q in
       let s : positionOf c ≡ start = cc in
       let t : r .0 ≡ start = sym (ap positionOf (r .1)) ∙ s in
       (e, rw (r .1, t) at q)
 
   groups-here : (fs : List Field) (n : ℕ) (c : Cursor) (e : ℕ) → groupsEnd fs xs n c ≡ At e → groupsEnd fs xs n (At (positionOf c)) ≡ At e
-  groups-here fs n c e q = let r = reached (groupsEnd fs xs n) (λ k o. groups-stay xs k o fs n) c q in rw (r .1) (rw (r .1) at q)
+  groups-here fs n c e q = let r = reached (groupsEnd fs xs n) (groups-local fs n .stays xs) c q in rw (r .1) (rw (r .1) at q)
 
   pub groups-at : (fs : List Field) (n : ℕ) (c : Cursor) (e : ℕ) → groupsEnd fs xs n c ≡ At e → (p : Position) → at (positionOf c) n ≡ started.At p → GroupsAt fs p
   groups-at fs n c e q p s =
@@ -106,8 +106,8 @@ module _ (xs : List ℕ) where
   update-sound : (c : Cursor) (e : ℕ) → tupleEnd xs (letterField (0x4E ∷ []) xs (optional keyOrOld xs c .next) .next) ≡ At e → Sound (withTuples (oldOffset (oldTuple (optional keyOrOld xs c .letter) (optional keyOrOld xs c .start))) (found.At (positionOf (letterField (0x4E ∷ []) xs (optional keyOrOld xs c .next) .next))))
   update-sound c e q =
       let n = letterField (0x4E ∷ []) xs (optional keyOrOld xs c .next) .next in
-      let r = reached (tupleEnd xs) (tuple-stays xs) n q in
-      let m = reached (λ (d : Cursor). letterField (0x4E ∷ []) xs d .next) (λ k o. letter-stays xs k o (0x4E ∷ [])) (optional keyOrOld xs c .next) (r .1) in
+      let r = reached (tupleEnd xs) (tuple-local .stays xs) n q in
+      let m = reached (λ (d : Cursor). letterField (0x4E ∷ []) xs d .next) (letter-local (0x4E ∷ []) .stays xs) (optional keyOrOld xs c .next) (r .1) in
       tuples-sound _ _ (old-here c (m .0) (m .1)) (tuple-here n e q)
 
   pub kind-sound : (b : Bool) (k : Kind) (e : ℕ) → readFields b (layout k) xs (At 1) .next ≡ At e → Sound (contentsOf (messageOf k (readFields b (layout k) xs (At 1) .parts)))

@@ -10,14 +10,14 @@ use borrow.Author.Tests.{ne-eqb}
 use lib.ListN.{length}
 use Rattle.wire.specs.declared.Cursor.the-variants.{At, Refused}
 use Rattle.wire.specs.declared.Refusal.{Refusal}
-use Rattle.wire.specs.Fields.{numberField}
 use Rattle.message.specs.declared.Version.{Version}
 use Rattle.message.specs.declared.Message.{Message}
 use Rattle.message.specs.declared.Read.{Read}
 use Rattle.message.specs.declared.Read.the-variants as read
-use Rattle.message.specs.Layout.{Field, column, mostColumns, readGroup, groupsEnd, tupleEnd}
+use Rattle.message.specs.Layout.{Field, column, columnCount, readGroup, groupsEnd, tupleEnd}
 use Rattle.message.specs.Messages.{readMessage}
 use Rattle.message.proofs.Accepted.{Accepted, accepted, reached}
+use Rattle.message.proofs.Local.{groups-local}
 use Rattle.columns.specs.declared.Position.{Position}
 use Rattle.columns.specs.declared.Started.the-variants as started
 use Rattle.columns.specs.declared.Found.{Found}
@@ -25,7 +25,6 @@ use Rattle.columns.specs.declared.Found.the-variants as found
 use Rattle.columns.specs.declared.Which.the-variants.{Old, New}
 use Rattle.columns.specs.Starts.{contentsOf, tuplePosition}
 use Rattle.columns.specs.Visits.{Section, tuple, columns, oids, fieldsOf, startOf, groupsOf, Visit, visit, visited}
-use Rattle.columns.proofs.Stays.{groups-stay}
 use Rattle.columns.proofs.Sections.{TupleAt, GroupsAt, Sound, groups-at, kind-sound}
 
 abbrev pub position : ℕ → ℕ → Position
@@ -44,7 +43,7 @@ module _ (fs : List Field) (xs : List ℕ) where
   all-visited zero a e more q = let p : a ≡ e = cc in rw (zero-add more, p) (stays-over e more)
   all-visited (suc n) a e more q =
       let g = readGroup fs xs (At a) in
-      let r = reached (groupsEnd fs xs n) (λ k o. groups-stay xs k o fs n) (g .next) q in
+      let r = reached (groupsEnd fs xs n) (groups-local fs n .stays xs) (g .next) q in
       let less : suc n - 1 ≡ n = omega arith in
       rw (suc-add n more, ne-eqb (suc n) 0 (λ z. omega arith), r .1, less)
       (ap (λ (v : Visit). visit (g .values ∷ v .given) (v .last)) (all-visited n (r .0) e more (rw (r .1) at q)))
@@ -56,7 +55,7 @@ tuple-at :
 unfolding tuplePosition tupleEnd
 tuple-at xs p found.Nothing w q = let z : _≡_ {A = ℕ} 0 1 = cc in absurd (omega arith)
 tuple-at xs p (found.At start) w q =
-    let n = numberField 2 0 mostColumns 6 xs (At start) in
+    let n = columnCount xs (At start) in
     let t = w start refl in
     groups-at xs (column ∷ []) (n .value) (n .next) (t .0) (t .1) p q
 

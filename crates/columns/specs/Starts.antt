@@ -2,14 +2,14 @@
 use Prim.Native.Nat.{ℕ}
 use mathlib.Core.List.{List}
 use Rattle.wire.specs.declared.Cursor.the-variants.{At}
-use Rattle.wire.specs.Fields.{numberField, positionOf}
+use Rattle.wire.specs.Fields.{positionOf}
 use Rattle.message.specs.declared.OldTuple.{OldTuple}
 use Rattle.message.specs.declared.OldTuple.the-variants as old
 use Rattle.message.specs.declared.Message.{Message}
 use Rattle.message.specs.declared.Message.the-variants as m
 use Rattle.message.specs.declared.Read.{Read}
 use Rattle.message.specs.declared.Read.the-variants as read
-use Rattle.message.specs.Layout.{mostColumns}
+use Rattle.message.specs.Layout.{columnCount}
 use Rattle.columns.specs.declared.Started.{Started}
 use Rattle.columns.specs.declared.Started.the-variants as started
 use Rattle.columns.specs.declared.Which.{Which}
@@ -53,7 +53,7 @@ contentsOf (m.StreamAbort xid sub) = withTuples found.Nothing found.Nothing
 -- at a tuple's first column: behind its count, with as many left as it counts
 unfoldable pub tuplePosition : List ℕ → Found → Started
 tuplePosition xs found.Nothing = absent
-tuplePosition xs (found.At start) = let n = numberField 2 0 mostColumns 6 xs (At start) in at (positionOf (n .next)) (n .value)
+tuplePosition xs (found.At start) = let n = columnCount xs (At start) in at (positionOf (n .next)) (n .value)
 
 abbrev pub tupleOf : Which → Contents → Found
 tupleOf Old k = k .old

@@ -3,8 +3,8 @@ use Prim.Native.Nat.{ℕ, zero, suc}
 use mathlib.Core.List.{List, [], _∷_}
 use Rattle.wire.specs.declared.Cursor.{Cursor}
 use Rattle.message.specs.declared.Read.{Read}
-use Rattle.message.specs.Layout.{Field, column, readGroup}
-use Rattle.message.specs.Kinds.{columnFields, id}
+use Rattle.message.specs.Layout.{Field, column, id, readGroup}
+use Rattle.message.specs.Kinds.{columnFields}
 use Rattle.columns.specs.declared.Position.{Position}
 use Rattle.columns.specs.declared.Started.{Started}
 use Rattle.columns.specs.declared.Which.{Which}

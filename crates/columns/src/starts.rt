@@ -12,6 +12,7 @@ use message::OldTuple;
 use message::Read;
 use message::Update;
 use message::Version;
+use message::fields;
 use wire::Cursor;
 use wire::Field16;
 use wire::Refusal;
@@ -99,13 +100,7 @@ fn tuple_position(message: &[u8], found: Found) -> Started
     match found {
         Found::Nothing => lacking(),
         Found::At(start) => {
-            let Field16 { value, next } = wire::number16(
-                message,
-                Cursor::At(start),
-                0,
-                1600,
-                Refusal::RANGE,
-            );
+            let Field16 { value, next } = fields::column_count(message, Cursor::At(start));
             let offset = wire::position(next);
             let left = value as usize;
             Started::At(Position { offset, left })

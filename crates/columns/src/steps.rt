@@ -10,14 +10,13 @@ use crate::RelationField;
 use crate::RelationStep;
 use crate::TruncatedRelation;
 use crate::TupleStep;
+use message::fields;
 use wire::Cursor;
 use wire::Field8;
 use wire::Field32;
 use wire::FieldSpan;
 use wire::Refusal;
 use wire::Span;
-
-const MAX32: u32 = 0xFFFF_FFFF;
 
 // A column of a tuple.
 fn column_field(s: &[u8], c: Cursor) -> ColumnField
@@ -26,16 +25,8 @@ fn column_field(s: &[u8], c: Cursor) -> ColumnField
     let Field8 {
         value: letter,
         next,
-    } = wire::letter(s, c, b"nutb");
-    if letter == Column::TEXT {
-        let FieldSpan { value, next } = wire::value(s, next);
-        return ColumnField {
-            letter,
-            value,
-            next,
-        };
-    }
-    if letter == Column::BINARY {
+    } = fields::column_letter(s, c);
+    if fields::has_value(letter) {
         let FieldSpan { value, next } = wire::value(s, next);
         return ColumnField {
             letter,
@@ -98,8 +89,8 @@ fn relation_field(s: &[u8], c: Cursor) -> RelationField
     let Field32 {
         value: type_oid,
         next,
-    } = wire::number32(s, next, 0, MAX32, Refusal::FIELD);
-    let Field32 { value: bits, next } = wire::number32(s, next, 0, MAX32, Refusal::FIELD);
+    } = wire::number32(s, next, 0, u32::MAX, Refusal::FIELD);
+    let Field32 { value: bits, next } = wire::number32(s, next, 0, u32::MAX, Refusal::FIELD);
     RelationField {
         key,
         name,
@@ -159,13 +150,7 @@ pub fn oid_step(message: &[u8], position: Position) -> OidStep
             next: position,
         };
     }
-    let Field32 { value: oid, next } = wire::number32(
-        message,
-        Cursor::At(offset),
-        1,
-        MAX32,
-        Refusal::FIELD,
-    );
+    let Field32 { value: oid, next } = fields::id(message, Cursor::At(offset));
     match next {
         Cursor::Refused { number, offset } => OidStep {
             relation: TruncatedRelation::Refused { number, offset },

@@ -118,7 +118,7 @@ fn head_of(bytes: &[u8]) -> Head {
         bytes,
         Cursor::At(2),
         0,
-        0xFFFF_FFFF,
+        u32::MAX,
         Refusal::FIELD,
     );
     Head::Size(value)

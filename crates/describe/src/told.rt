@@ -26,6 +26,7 @@ use message::StreamCommit;
 use message::Truncate;
 use message::Type;
 use message::Update;
+use message::fields;
 use wire::Cursor;
 use wire::Field16;
 use wire::Refusal;
@@ -247,13 +248,7 @@ fn put_tuple(
     start: usize,
     types: &[u32; WIDTH],
 ) -> usize {
-    let Field16 { value, next } = wire::number16(
-        bytes,
-        Cursor::At(start),
-        0,
-        0xFFFF,
-        Refusal::RANGE,
-    );
+    let Field16 { value, next } = fields::column_count(bytes, Cursor::At(start));
     let offset = wire::position(next);
     let left = value as usize;
     let at = text::put(line, at, words);

@@ -8,6 +8,7 @@ use borrow.Author.Tests.{leb-true, le-leb}
 use lib.Dec.{eqb, leb}
 use lib.ListN.{length, take, drop, length-append, length-drop}
 use lib.Seq.{take-nil, drop-nil, take-at, drop-at}
+use Rattle.wire.specs.Numbers.{most16, most32}
 use Rattle.wire.specs.Lists.{keep}
 use Rattle.message.specs.Encode.{digits}
 use Rattle.message.proofs.Judged.{length-digits}
@@ -119,7 +120,7 @@ length-records (kept top own xs ∷ ks) =
 -- a number that fits is read back
 word-from : (xs : List ℕ) (at v : ℕ) (post : List ℕ) → From xs at (digits 4 v) post → Small v → word xs at ≡ v
 word-from xs at v post f h =
-    ap (λ x. x .value) (number-from post 4 0 0xFFFF_FFFF 4 v f h (rw (le-leb 0 v (omega arith), le-leb v 0xFFFF_FFFF (omega arith))))
+    ap (λ x. x .value) (number-from post 4 0 most32 4 v f h (rw (le-leb 0 v (omega arith), le-leb v most32 (omega arith))))
 
 module _ (top own : ℕ) (xs post : List ℕ) (f : Fitting top own xs) where
   abbrev whole : List ℕ
@@ -148,7 +149,7 @@ module _ (top own : ℕ) (xs post : List ℕ) (f : Fitting top own xs) where
 
   mark-is : markOf whole ≡ 0xC34D
   unfolding recordOf t-part o-part n-part digits
-  mark-is = ap (λ x. x .value) (number-from (t-part ++ post) 2 0 0xFFFF 4 0xC34D (record { at = omega arith; is = refl }) (omega arith) refl)
+  mark-is = ap (λ x. x .value) (number-from (t-part ++ post) 2 0 most16 4 0xC34D (record { at = omega arith; is = refl }) (omega arith) refl)
 
   top-is : word whole 2 ≡ top
   unfolding t-part

@@ -5,6 +5,7 @@ use mathlib.Core.Bool.{Bool, true, false, cond, not, _&&_, _||_}
 use lib.Dec.{eqb, leb}
 use lib.ListN.{length, take, drop}
 use Rattle.wire.specs.declared.Cursor.the-variants.{At}
+use Rattle.wire.specs.Numbers.{most16, most32}
 use Rattle.wire.specs.Fields.{numberField}
 use Rattle.keeper.specs.declared.Header.{Header}
 use Rattle.keeper.specs.Rules.{laid}
@@ -15,10 +16,10 @@ header size whole top own = record { size = size; whole = whole; top = top; own 
 
 -- the number of 32 bits at a place
 abbrev pub word : List ℕ → ℕ → ℕ
-word xs at = numberField 4 0 0xFFFF_FFFF 4 xs (At at) .value
+word xs at = numberField 4 0 most32 4 xs (At at) .value
 
 abbrev pub markOf : List ℕ → ℕ
-markOf xs = numberField 2 0 0xFFFF 4 xs (At 0) .value
+markOf xs = numberField 2 0 most16 4 xs (At 0) .value
 
 -- the piece at the start of bytes
 unfoldable pub headerOf : List ℕ → Header

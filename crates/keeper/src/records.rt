@@ -16,15 +16,11 @@ use wire::Refusal;
 
 const MARK: u16 = 0xC34D;
 
-const MAX16: u16 = 0xFFFF;
-
-const MAX32: u32 = 0xFFFF_FFFF;
-
 // The number of 32 bits at a place.
 fn word(bytes: &[u8], at: usize) -> u32
     ensures { λ r. ⌜ r ≡ records.word (now (bytes .entry)) at ⌝ }
 {
-    let Field32 { value, .. } = wire::number32(bytes, Cursor::At(at), 0, MAX32, Refusal::FIELD);
+    let Field32 { value, .. } = wire::number32(bytes, Cursor::At(at), 0, u32::MAX, Refusal::FIELD);
     value
 }
 
@@ -45,7 +41,7 @@ fn header(bytes: &[u8]) -> Header
         bytes,
         Cursor::At(0),
         0,
-        MAX16,
+        u16::MAX,
         Refusal::FIELD,
     );
     if mark != MARK {

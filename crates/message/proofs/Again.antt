@@ -13,22 +13,22 @@ use Rattle.wire.specs.declared.Cursor.the-variants.{At, Refused}
 use Rattle.wire.specs.declared.Field64.{Field64}
 use Rattle.wire.specs.declared.Field8.{Field8}
 use Rattle.wire.specs.declared.FieldSpan.{FieldSpan}
-use Rattle.wire.specs.Numbers.{be}
+use Rattle.wire.specs.Numbers.{be, most32}
 use Rattle.wire.specs.Fields.{numberField, letterField, textField, bytesField, valueField, member, positionOf, untilZero}
 use Rattle.wire.proofs.Cases.{letter-cases}
 use Rattle.wire.proofs.There.{number-inv, number-read, letter-inv, letter-read, text-inv, text-read, bytes-inv, bytes-read, until-before, until-zero}
-use Rattle.message.specs.Layout.{Field, Part, number, constant, letter, text, value, column, one, blockXid, groups, tuple, optionalTuple, readField, readGroup, readGroups, readPart, readFields, xidField, Optional, optional, columnEnd, groupsEnd, tupleEnd}
+use Rattle.message.specs.Layout.{Field, Part, number, constant, letter, text, value, column, one, blockXid, groups, tuple, optionalTuple, readField, readGroup, readGroups, readPart, readFields, xidField, Optional, optional, columnLetters, hasValue, columnLetter, columnValue, columnEnd, groupsEnd, tupleEnd}
 use Rattle.message.specs.Messages.{largest}
 use Rattle.message.specs.Encode.{digits, cut}
 use Rattle.message.specs.Write.{arity, arities}
-use Rattle.message.specs.Pieces.{Piece, placed, steps, bytesOf, tested, numberPiece, letterPiece, bytePiece, lengthPiece, textPiece, contentPiece, sectionPiece, xidPiece, tuplePiece, oldPieces, fieldPieces, groupPieces, partPieces, layoutPieces}
-use Rattle.message.proofs.Local.{Local, through, groupEnd, column-local, field-local, group-local, groups-local, tuple-local}
+use Rattle.message.specs.Pieces.{Piece, placed, steps, bytesOf, tested, numberPiece, letterPiece, bytePiece, lengthPiece, textPiece, contentPiece, sectionPiece, valuePieces, xidPiece, tuplePiece, oldPieces, fieldPieces, groupPieces, partPieces, layoutPieces}
+use Rattle.message.proofs.Local.{Local, through, groupEnd, value-local, field-local, group-local, groups-local, tuple-local, fields-stay}
 use Rattle.message.proofs.Judged.{steps-append, bytes-append}
 
 -- FIELDS AND THEIR NUMBERS
 
 arity-count : (f : Field) (xs : List ℕ) (c : Cursor) → length (readField f xs c .values) ≡ arity f
-arity-count (number w low high n) xs c = refl
+arity-count (number w low high) xs c = refl
 arity-count (constant k) xs c = refl
 arity-count (letter set) xs c = refl
 arity-count text xs c = refl
@@ -48,7 +48,7 @@ behind fs xs c p = ap (λ (k : ℕ). getD (readGroup fs xs c .values ++ (p ∷ [
 
 -- a field's numbers, and what is behind them
 pub first : (f : Field) (xs : List ℕ) (c : Cursor) (r : List ℕ) → take (arity f) (readField f xs c .values ++ r) ≡ readField f xs c .values
-first (number w low high n) xs c r = refl
+first (number w low high) xs c r = refl
 first (constant k) xs c r = refl
 first (letter set) xs c r = refl
 first text xs c r = refl
@@ -56,7 +56,7 @@ first value xs c r = refl
 first column xs c r = refl
 
 pub rest : (f : Field) (xs : List ℕ) (c : Cursor) (r : List ℕ) → drop (arity f) (readField f xs c .values ++ r) ≡ r
-rest (number w low high n) xs c r = refl
+rest (number w low high) xs c r = refl
 rest (constant k) xs c r = refl
 rest (letter set) xs c r = refl
 rest text xs c r = refl
@@ -170,7 +170,7 @@ module _ (xs : List ℕ) (small : (i : ℕ) → getD xs i 0 < 256) (short : leng
       (again-one (textPiece xs a u) a (u + 1) e (rw (le-leb (a + u) (length xs) l, text-clear (drop a xs))) (omega (arith, i .1)) (omega (arith, i .0, i .1))
       (rw (z, take-suc (drop a xs) u 0, until-zero (drop a xs) k)))
 
-  value-again : (a e : ℕ) → valueField xs (At a) .next ≡ At e → (let s = valueField xs (At a) .value in Again (lengthPiece (s .length) ∷ contentPiece xs (s .start) (s .length) ∷ []) a e)
+  value-again : (a e : ℕ) → valueField xs (At a) .next ≡ At e → (let s = valueField xs (At a) .value in Again (valuePieces xs (s .start) (s .length)) a e)
   unfolding valueField bytesField
   value-again a e q =
       let f = numberField 4 0 0x7FFFFFFF 4 xs (At a) in
@@ -191,13 +191,28 @@ module _ (xs : List ℕ) (small : (i : ℕ) → getD xs i 0 < 256) (short : leng
   section-again F f a e h q =
       rw q (again-one (sectionPiece xs a (At e)) a e e refl (omega (arith, f .ahead xs a e q)) (omega (arith, f .inside xs a e q)) refl)
 
+  -- a letter, and where it says so a value
+  column-again : (a e : ℕ) → columnEnd xs (At a) ≡ At e → (let k = columnLetter xs (At a) .value in let v = columnValue xs (At a) in Again (letterPiece columnLetters k ∷ cond (hasValue k) (valuePieces xs (v .start) (v .length)) []) a e)
+  unfolding columnEnd columnValue
+  column-again a e = go (hasValue (columnLetter xs (At a) .value))
+    where
+      k : Field8
+      k = columnLetter xs (At a)
+
+      go : (t : Bool) → cond t (valueField xs (k .next) .next) (k .next) ≡ At e → (let v = cond t (valueField xs (k .next) .value) (record { start = 0; length = 0 }) in Again (letterPiece columnLetters (k .value) ∷ cond t (valuePieces xs (v .start) (v .length)) []) a e)
+      go true q =
+          let m = through (λ (c : Cursor). valueField xs c .next) (value-local .stays xs) (k .next) e q in
+          again-then (letterPiece columnLetters (k .value) ∷ []) (let v = valueField xs (k .next) .value in valuePieces xs (v .start) (v .length)) a (m .0) e (letter-again columnLetters a (m .0) (m .1))
+          (subst (λ (c : Cursor). let v = valueField xs c .value in Again (valuePieces xs (v .start) (v .length)) (m .0) e) (sym (m .1)) (value-again (m .0) e (m .2)))
+      go false q = letter-again columnLetters a e q
+
   field-again : (f : Field) (a e : ℕ) → a ≤ length xs → readField f xs (At a) .next ≡ At e → Again (fieldPieces f xs (readField f xs (At a) .values)) a e
-  field-again (number w low high n) a e h q = number-again w low high n a e q
+  field-again (number w low high) a e h q = number-again w low high 4 a e q
   field-again (constant k) a e h q = constant-again k a e q
   field-again (letter set) a e h q = letter-again set a e q
   field-again text a e h q = text-again a e q
   field-again value a e h q = value-again a e q
-  field-again column a e h q = section-again columnEnd column-local a e h q
+  field-again column a e h q = column-again a e q
 
   group-again : (fs : List Field) (tail : List ℕ) (a e : ℕ) → a ≤ length xs → readGroup fs xs (At a) .next ≡ At e → Again (groupPieces fs xs (readGroup fs xs (At a) .values ++ tail)) a e
   group-again [] tail a e h q = let p : a ≡ e = cc in subst (Again [] a) p (again-none a h)
@@ -258,7 +273,7 @@ module _ (xs : List ℕ) (small : (i : ℕ) → getD xs i 0 < 256) (short : leng
   part-again : (b : Bool) (p : Part) (a e : ℕ) → a ≤ length xs → readPart b p xs (At a) .next ≡ At e → Again (partPieces b p xs (readPart b p xs (At a) .values)) a e
   unfolding xidField
   part-again b (one f) a e l q = field-again f a e l q
-  part-again true blockXid a e l q = number-again 4 1 0xFFFFFFFF 4 a e q
+  part-again true blockXid a e l q = number-again 4 1 most32 4 a e q
   part-again false blockXid a e l q =
       let p : a ≡ e = cc in
       let z : e - a ≡ 0 = omega arith in
@@ -267,24 +282,11 @@ module _ (xs : List ℕ) (small : (i : ℕ) → getD xs i 0 < 256) (short : leng
   part-again b tuple a e l q = section-again tupleEnd tuple-local a e l q
   part-again b (optionalTuple set) a e l q = optional-again b set a e l q
 
-  part-stays : (b : Bool) (p : Part) (n o : ℕ) → readPart b p xs (Refused n o) .next ≡ Refused n o
-  unfolding numberField letterField xidField optional
-  part-stays b (one f) n o = field-local f .stays xs n o
-  part-stays true blockXid n o = refl
-  part-stays false blockXid n o = refl
-  part-stays b (groups w low high between fs) n o = ap (groupsEnd fs xs 0) (group-local between .stays xs n o) ∙ groups-local fs 0 .stays xs n o
-  part-stays b tuple n o = tuple-local .stays xs n o
-  part-stays b (optionalTuple set) n o = refl
-
-  layout-stays : (b : Bool) (ps : List Part) (n o : ℕ) → readFields b ps xs (Refused n o) .next ≡ Refused n o
-  layout-stays b [] n o = refl
-  layout-stays b (p ∷ ps) n o = ap (λ (d : Cursor). readFields b ps xs d .next) (part-stays b p n o) ∙ layout-stays b ps n o
-
   pub layout-again : (b : Bool) (ps : List Part) (a e : ℕ) → a ≤ length xs → readFields b ps xs (At a) .next ≡ At e → Again (layoutPieces b ps xs (readFields b ps xs (At a) .parts)) a e
   layout-again b [] a e l q = let p : a ≡ e = cc in subst (Again [] a) p (again-none a l)
   layout-again b (p ∷ ps) a e l q =
       let c = readPart b p xs (At a) .next in
-      let m = through (λ (d : Cursor). readFields b ps xs d .next) (layout-stays b ps) c e q in
+      let m = through (λ (d : Cursor). readFields b ps xs d .next) (fields-stay b xs ps) c e q in
       let f = part-again b p a (m .0) l (m .1) in
       again-then (partPieces b p xs (readPart b p xs (At a) .values)) (layoutPieces b ps xs (readFields b ps xs c .parts)) a (m .0) e f
       (subst (λ (c : Cursor). Again (layoutPieces b ps xs (readFields b ps xs c .parts)) (m .0) e) (sym (m .1)) (layout-again b ps (m .0) e (f .inside) (m .2)))

@@ -13,13 +13,13 @@ use Rattle.wire.specs.declared.Field64.{Field64}
 use Rattle.wire.specs.declared.Field8.{Field8}
 use Rattle.wire.specs.declared.FieldSpan.{FieldSpan}
 use Rattle.wire.specs.Fields.{numberField, letterField, valueField, inRange, member, positionOf}
-use Rattle.message.specs.Layout.{Field, Part, number, constant, letter, text, value, column, one, blockXid, groups, tuple, optionalTuple, readField, readGroup, readPart, readFields, xidField, Optional, optional, columnEnd, groupsEnd, tupleEnd}
+use Rattle.message.specs.Layout.{Field, Part, number, constant, letter, text, value, column, one, blockXid, groups, tuple, optionalTuple, readField, readGroup, readPart, readFields, xidField, Optional, optional, id, groupsEnd, tupleEnd}
 use Rattle.message.specs.Messages.{largest}
 use Rattle.message.specs.Encode.{digits, cut, fromTo}
 use Rattle.message.specs.Write.{arity, arities}
 use Rattle.message.specs.Pieces.{Piece, bytesOf, numberPiece, letterPiece, sectionPiece, tuplePiece, xidBytes, xidPiece, fieldPieces, groupPieces, partPieces, layoutPieces}
 use Rattle.message.specs.Same.{Content, num, bytes}
-use Rattle.message.proofs.Local.{Local, cut-same, Agree, column-local, groups-local, tuple-local}
+use Rattle.message.proofs.Local.{Local, cut-same, Agree, groups-local, tuple-local}
 use Rattle.message.proofs.Judged.{Good, AllGood, good-append, test-good, text-good, length-digits, length-cut, bytes-append}
 use Rattle.message.proofs.Again.{behind, first, rest}
 use Rattle.message.proofs.From.{From, from-first, from-next, from-cut, from-byte, from-agree, number-from, letter-from, text-from, bytes-from}
@@ -27,14 +27,14 @@ use Rattle.message.proofs.Says.{fieldSays, groupSays, partSays, layoutS
 
 -- LAYOUTS THAT CAN BE READ BACK
 
--- a number's bytes hold its highest value
+-- a number's bytes hold its highest value; a column stands in a tuple only
 abbrev FineField : Field → Type 0
-FineField (number w low high n) = ltb high (256 ^ w) ≡ true
+FineField (number w low high) = ltb high (256 ^ w) ≡ true
 FineField (constant k) = Unit {0}
 FineField (letter set) = Unit {0}
 FineField text = Unit {0}
 FineField value = Unit {0}
-FineField column = Unit {0}
+FineField column = ⊥
 
 abbrev FineGroup : List Field → Type 0
 FineGroup [] = Unit {0}
@@ -42,7 +42,7 @@ FineGroup (f ∷ fs) = FineField f × FineGroup fs
 
 -- what follows an optional tuple does not look like one: it is a constant that is none of its letters
 abbrev NotField : List ℕ → Field → Type 0
-NotField set (number w low high n) = ⊥
+NotField set (number w low high) = ⊥
 NotField set (constant k) = member set k ≡ false
 NotField set (letter l) = ⊥
 NotField set text = ⊥
@@ -130,9 +130,9 @@ module _ (xs : List ℕ) (a : ℕ) (post : List ℕ) where
 module _ (src xs : List ℕ) (a : ℕ) (post : List ℕ) where
   field-reads : (f : Field) (v : List ℕ) → FineField f → AllGood (fieldPieces f src v) → From xs a (bytesOf (fieldPieces f src v)) post → FieldReads f src v xs a
   unfolding member
-  field-reads (number w low high n) v c g h =
+  field-reads (number w low high) v c g h =
       let d = digits w (getD v 0 0) in
-      let e = number-reads xs a post w low high n (getD v 0 0) c (g .0) (from-first d [] post h) in
+      let e = number-reads xs a post w low high 4 (getD v 0 0) c (g .0) (from-first d [] post h) in
       record { ends = ap (λ (f : Field64). f .next) e ∙ rw (append-nil d); says = ap (λ (f : Field64). num (f .value) ∷ []) e }
   field-reads (constant k) v c g h =
       let e = letter-from post (k ∷ []) k h (rw (eq-eqb k k refl)) in
@@ -169,14 +169,7 @@ module _ (src xs : List ℕ) (a : ℕ) (post : List ℕ) where
         says = ap (λ (f : FieldSpan). bytes (cut xs (f .value .start) (f .value .length)) ∷ []) e
             ∙ ap (λ (b : List ℕ). bytes b ∷ []) (ap (λ (m : ℕ). cut xs (a + 4) m) (sym k) ∙ ap (λ (m : ℕ). cut xs m (length t)) (sym p) ∙ from-cut t post next);
       }
-  field-reads column v c g h =
-      let s = getD v 0 0 in
-      let t = fromTo src s (columnEnd src (At s)) in
-      let i = from-first t [] post h in
-      record {
-        ends = section-ends columnEnd column-local src s (g .0 .0) (g .0 .1) xs a post i ∙ rw (append-nil t);
-        says = ap (λ (b : List ℕ). bytes b ∷ []) (section-says columnEnd column-local src s (g .0 .0) (g .0 .1) xs a post i);
-      }
+  field-reads column v c g h = absurd c
 
 module _ (src xs : List ℕ) where
   group-reads :
@@ -299,7 +292,7 @@ module _ (b : Bool) (src xs : List ℕ) (a : ℕ) (post : List ℕ) where
   part-reads blockXid ps v c g k h = go b g h
     where
       go : (t : Bool) → AllGood (xidPiece t (getD v 0 0) ∷ []) → From xs a (xidBytes t (getD v 0 0) ++ []) post → PartReads t blockXid src v xs a
-      go true g h = let r = field-reads src xs a post (number 4 1 0xFFFFFFFF 4) v refl g h in record { ends = r .ends; says = r .says }
+      go true g h = let r = field-reads src xs a post id v refl g h in record { ends = r .ends; says = r .says }
       go false g h =
           let z : a + 0 ≡ a = omega arith in
           let k : getD v 0 0 ≡ 0 = eqb-true (getD v 0 0) 0 (test-good (eqb (getD v 0 0) 0) 0 4 (g .0 .0) (g .0 .1) .0) in
@@ -324,7 +317,7 @@ clear-of b (optionalTuple set) [] src vs post c = absurd c
 clear-of b (optionalTuple set) (q ∷ ps) src vs post c = go q c
   where
     field : (f : Field) → NotField set f → Clear (optionalTuple set) (bytesOf (layoutPieces b (one f ∷ ps) src vs) ++ post)
-    field (number w low high n) c = absurd c
+    field (number w low high) c = absurd c
     field (constant k) c = (k, bytesOf (layoutPieces b ps src (drop 1 vs)) ++ post, refl, c)
     field (letter l) c = absurd c
     field text c = absurd c

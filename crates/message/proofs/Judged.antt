@@ -10,16 +10,17 @@ use lib.Seq.{length-take-le}
 use lib.Dec.{eqb, leb}
 use Rattle.wire.specs.declared.Cursor.{Cursor}
 use Rattle.wire.specs.declared.Cursor.the-variants.{At, Refused}
+use Rattle.wire.specs.Numbers.{most32}
 use Rattle.wire.specs.Fields.{inRange, member}
 use Rattle.wire.proofs.There.{no}
 use Rattle.message.specs.declared.Message.{Message}
-use Rattle.message.specs.Layout.{Field, Part, number, constant, letter, text, value, column, one, blockXid, groups, tuple, optionalTuple, columnEnd, groupsEnd, tupleEnd}
+use Rattle.message.specs.Layout.{Field, Part, number, constant, letter, text, value, column, one, blockXid, groups, tuple, optionalTuple, hasValue, columnLetters, groupsEnd, tupleEnd}
 use Rattle.message.specs.Kinds.{letterOf, layout}
 use Rattle.message.specs.Messages.{largest}
 use Rattle.message.specs.Encode.{digits, cut, fromTo, kindOfMessage, partsOf}
 use Rattle.message.specs.Write.{arity, arities}
-use Rattle.message.specs.Pieces.{Piece, placed, step, steps, bytesOf, tested, numberPiece, letterPiece, bytePiece, lengthPiece, textPiece, textJudgement, contentPiece, sectionPiece, xidPiece, tuplePiece, fieldPieces, groupPieces, partPieces, layoutPieces, messagePieces}
-use Rattle.message.proofs.Local.{Local, through, column-local, groups-local, tuple-local}
+use Rattle.message.specs.Pieces.{Piece, placed, step, steps, bytesOf, tested, numberPiece, letterPiece, bytePiece, lengthPiece, textPiece, textJudgement, contentPiece, sectionPiece, valuePieces, xidPiece, tuplePiece, fieldPieces, groupPieces, partPieces, layoutPieces, messagePieces}
+use Rattle.message.proofs.Local.{Local, through, groups-local, tuple-local}
 
 -- THE JUDGEMENTS
 
@@ -85,7 +86,7 @@ length-sound : (v : ℕ) → Sound (lengthPiece v)
 length-sound v k q = let e : 4 ≡ k = cc in length-digits 4 v ∙ omega arith
 
 xid-sound : (b : Bool) (v : ℕ) → Sound (xidPiece b v)
-xid-sound true v k q = number-sound 4 1 0xFFFFFFFF 4 v k q
+xid-sound true v k q = number-sound 4 1 most32 4 v k q
 xid-sound false v k q = let r = test-good (eqb v 0) 0 4 k q in let e : 0 ≡ k = r .1 in omega arith
 
 text-sound : (src : List ℕ) (s n : ℕ) → Sound (textPiece src s n)
@@ -104,13 +105,20 @@ content-sound src s n k q =
 section-sound : (F : List ℕ → Cursor → Cursor) (f : Local F) (src : List ℕ) (s : ℕ) → Sound (sectionPiece src s (F src (At s)))
 section-sound F f src s k q = ap (λ (c : Cursor). length (fromTo src s c)) q ∙ length-cut src s (k - s) (f .inside src s k q)
 
+value-sound : (src : List ℕ) (s n : ℕ) → AllSound (valuePieces src s n)
+value-sound src s n = (length-sound n, (content-sound src s n, tt))
+
 pub field-sound : (f : Field) (src v : List ℕ) → AllSound (fieldPieces f src v)
-field-sound (number w low high n) src v = (number-sound w low high n (getD v 0 0), tt)
+field-sound (number w low high) src v = (number-sound w low high 4 (getD v 0 0), tt)
 field-sound (constant k) src v = (byte-sound k, tt)
 field-sound (letter set) src v = (letter-sound set (getD v 0 0), tt)
 field-sound text src v = (text-sound src (getD v 0 0) (getD v 1 0), tt)
-field-sound value src v = (length-sound (getD v 1 0), (content-sound src (getD v 0 0) (getD v 1 0), tt))
-field-sound column src v = (section-sound columnEnd column-local src (getD v 0 0), tt)
+field-sound value src v = value-sound src (getD v 0 0) (getD v 1 0)
+field-sound column src v = (letter-sound columnLetters (getD v 0 0), go (hasValue (getD v 0 0)))
+  where
+    go : (t : Bool) → AllSound (cond t (valuePieces src (getD v 1 0) (getD v 2 0)) [])
+    go true = value-sound src (getD v 1 0) (getD v 2 0)
+    go false = tt
 
 pub group-sound : (fs : List Field) (src v : List ℕ) → AllSound (groupPieces fs src v)
 group-sound [] src v = tt

@@ -8,11 +8,12 @@ use lib.ListN.{length, getD, drop, length-drop}
 use lib.Seq.{getD-drop, getD-take, length-take-le, ext-getD}
 use lib.Dec.{eqb}
 use Rattle.wire.specs.declared.Cursor.{Cursor}
+use Rattle.wire.specs.declared.Field64.{Field64}
 use Rattle.wire.specs.declared.Cursor.the-variants.{At, Refused}
 use Rattle.wire.specs.Numbers.{be}
 use Rattle.wire.specs.Fields.{numberField, letterField, textField, bytesField, valueField, untilZero, member, inRange}
 use Rattle.wire.proofs.There.{no, number-inv, number-read, number-off, letter-inv, letter-read, letter-off, text-inv, text-read, text-off, bytes-inv, bytes-read, bytes-off, until-before, until-zero, until-is}
-use Rattle.message.specs.Layout.{Field, number, constant, letter, text, value, column, readField, readGroup, times, groupsEnd, tupleEnd, columnEnd, columnLetters, mostColumns}
+use Rattle.message.specs.Layout.{Field, Part, number, constant, letter, text, value, column, one, blockXid, groups, tuple, optionalTuple, readField, readGroup, readPart, readFields, times, groupsEnd, tupleEnd, columnEnd, xidField, optional, columnLetters, hasValue, mostColumns}
 use Rattle.message.specs.Encode.{cut}
 use Rattle.message.proofs.Accepted.{reached}
 
@@ -219,14 +220,14 @@ pub column-local : Local columnEnd
 unfolding columnEnd
 column-local =
     local-by (λ xs c. letterField columnLetters xs c .value) (λ xs c. letterField columnLetters xs c .next) (letter-local columnLetters) (letter-same columnLetters)
-    (λ v xs c. cond (eqb v 0x74 || eqb v 0x62) (valueField xs c .next) c) (λ v. go (eqb v 0x74 || eqb v 0x62))
+    (λ v xs c. cond (hasValue v) (valueField xs c .next) c) (λ v. go (hasValue v))
   where
     go : (t : Bool) → Local (λ xs c. cond t (valueField xs c .next) c)
     go true = value-local
     go false = local-none
 
 pub field-local : (f : Field) → Local (λ xs c. readField f xs c .next)
-field-local (number w low high n) = number-local w low high n
+field-local (number w low high) = number-local w low high 4
 field-local (constant k) = letter-local (k ∷ [])
 field-local (letter set) = letter-local set
 field-local text = text-local
@@ -253,3 +254,21 @@ unfolding tupleEnd
 tuple-local =
     local-by (λ xs c. numberField 2 0 mostColumns 6 xs c .value) (λ xs c. numberField 2 0 mostColumns 6 xs c .next) (number-local 2 0 mostColumns 6) (number-same 2 0 mostColumns 6)
     (λ n xs c. groupsEnd (column ∷ []) xs n c) (groups-local (column ∷ []))
+
+-- a refusal passes through every part of a layout
+module _ (b : Bool) (xs : List ℕ) where
+  part-stays : (p : Part) (n o : ℕ) → readPart b p xs (Refused n o) .next ≡ Refused n o
+  unfolding numberField letterField xidField optional
+  part-stays (one f) n o = field-local f .stays xs n o
+  part-stays blockXid n o = go b
+    where
+      go : (t : Bool) → cond {A = Field64} t (record { value = 0; next = Refused n o }) (record { value = 0; next = Refused n o }) .next ≡ Refused n o
+      go true = refl
+      go false = refl
+  part-stays (groups w low high between fs) n o = ap (groupsEnd fs xs 0) (group-local between .stays xs n o) ∙ groups-local fs 0 .stays xs n o
+  part-stays tuple n o = tuple-local .stays xs n o
+  part-stays (optionalTuple set) n o = refl
+
+  pub fields-stay : (ps : List Part) (n o : ℕ) → readFields b ps xs (Refused n o) .next ≡ Refused n o
+  fields-stay [] n o = refl
+  fields-stay (p ∷ ps) n o = ap (λ (c : Cursor). readFields b ps xs c .next) (part-stays p n o) ∙ fields-stay ps n o

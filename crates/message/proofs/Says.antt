@@ -10,19 +10,19 @@ use Rattle.message.specs.declared.OldTuple.{OldTuple}
 use Rattle.message.specs.declared.OldTuple.the-variants.{Nothing, Key, Full}
 use Rattle.message.specs.declared.Message.{Message}
 use Rattle.message.specs.declared.Message.the-variants as a
-use Rattle.message.specs.Layout.{Field, Part, number, constant, letter, text, value, column, one, blockXid, groups, tuple, optionalTuple, columnEnd, groupsEnd, tupleEnd}
+use Rattle.message.specs.Layout.{Field, Part, number, constant, letter, text, value, column, one, blockXid, groups, tuple, optionalTuple, groupsEnd, tupleEnd}
 use Rattle.message.specs.Kinds.{layout}
 use Rattle.message.specs.Encode.{cut, fromTo, kindOfMessage, partsOf}
 use Rattle.message.specs.Write.{arity, arities}
 use Rattle.message.specs.Same.{Content, num, bytes, contents}
 
 abbrev pub fieldSays : Field → List ℕ → List ℕ → List Content
-fieldSays (number w low high n) xs v = num (getD v 0 0) ∷ []
+fieldSays (number w low high) xs v = num (getD v 0 0) ∷ []
 fieldSays (constant k) xs v = []
 fieldSays (letter set) xs v = num (getD v 0 0) ∷ []
 fieldSays text xs v = bytes (cut xs (getD v 0 0) (getD v 1 0)) ∷ []
 fieldSays value xs v = bytes (cut xs (getD v 0 0) (getD v 1 0)) ∷ []
-fieldSays column xs v = bytes (fromTo xs (getD v 0 0) (columnEnd xs (At (getD v 0 0)))) ∷ []
+fieldSays column xs v = num (getD v 0 0) ∷ bytes (cut xs (getD v 1 0) (getD v 2 0)) ∷ []
 
 abbrev pub groupSays : List Field → List ℕ → List ℕ → List Content
 groupSays [] xs v = []

@@ -13,17 +13,18 @@ use lib.Seq.{take-add, drop-drop}
 use lib.Dec.{eqb, leb}
 use Rattle.wire.specs.declared.Cursor.{Cursor}
 use Rattle.wire.specs.declared.Cursor.the-variants.{At, Refused}
+use Rattle.wire.specs.Numbers.{most32}
 use Rattle.wire.specs.Fields.{inRange, member, numberField, letterField, textField, bytesField, valueField}
 use Rattle.wire.proofs.There.{number-off, letter-off, text-off, bytes-off}
 use Rattle.message.specs.declared.Version.{Version}
 use Rattle.message.specs.declared.Message.{Message}
-use Rattle.message.specs.Layout.{Field, Part, number, constant, letter, text, value, column, one, blockXid, groups, tuple, optionalTuple, columnLetters, columnEnd, mostColumns, readField, groupsEnd, tupleEnd}
+use Rattle.message.specs.Layout.{Field, Part, number, constant, letter, text, value, column, one, blockXid, groups, tuple, optionalTuple, columnLetters, hasValue, columnEnd, mostColumns, readField, groupsEnd, tupleEnd}
 use Rattle.message.specs.Kinds.{letterOf, layout}
 use Rattle.message.specs.Versions.{versionAllows, versionHas}
 use Rattle.message.specs.Messages.{largest}
 use Rattle.message.specs.Encode.{digits, cut, fromTo, kindOfMessage, partsOf}
-use Rattle.message.specs.Write.{Writing, bytes, refused, soFar, good, bad, Copy, copy, copied, copyValue, copyColumn, copyField, copyGroup, copyGroups, copyTuple, writeNumber, writeLetter, writeText, writeBytes, writeField, writeGroup, writePart, writeFields, writeMessage, arity, arities}
-use Rattle.message.specs.Pieces.{Piece, placed, steps, bytesOf, piece, tested, numberPiece, letterPiece, lengthPiece, textPiece, contentPiece, sectionPiece, xidPiece, tuplePiece, fieldPieces, groupPieces, partPieces, layoutPieces, outcome, fieldsWritten, writeShort}
+use Rattle.message.specs.Write.{Writing, bytes, refused, soFar, good, bad, Copy, copy, copied, copyValue, copyColumn, copyField, copyGroup, copyGroups, copyTuple, writeNumber, writeLetter, writeText, writeBytes, writeValue, writeField, writeGroup, writePart, writeFields, writeMessage, arity, arities}
+use Rattle.message.specs.Pieces.{Piece, placed, steps, bytesOf, piece, tested, numberPiece, letterPiece, lengthPiece, textPiece, contentPiece, sectionPiece, valuePieces, xidPiece, tuplePiece, fieldPieces, groupPieces, partPieces, layoutPieces, outcome, fieldsWritten, writeShort}
 use Rattle.message.proofs.Local.{Local, local-none, local-then, groupEnd, number-local, letter-local, text-local, bytes-local, value-local, column-local, tuple-local}
 use Rattle.message.proofs.Judged.{length-digits, length-cut, AllSound, steps-stay, steps-append, bytes-append, steps-end, field-sound, group-sound, part-sound}
 
@@ -112,9 +113,9 @@ module _ (src : List ℕ) (s n : ℕ) where
       test-lays (cut src s n) n 2 (leb (s + n) (length src))
       (λ e. let l : s + n ≤ length src = leb-true (s + n) (length src) e in length-cut src s n (omega arith))
 
-xid-lays : (b : Bool) (v : ℕ) → Lays (λ d. cond b (writeNumber 4 1 0xFFFFFFFF 4 v d) (cond (eqb v 0) d (bad 4 d))) (xidPiece b v ∷ [])
+xid-lays : (b : Bool) (v : ℕ) → Lays (λ d. cond b (writeNumber 4 1 most32 4 v d) (cond (eqb v 0) d (bad 4 d))) (xidPiece b v ∷ [])
 unfolding placed
-xid-lays true v = number-lays 4 1 0xFFFFFFFF 4 v
+xid-lays true v = number-lays 4 1 most32 4 v
 xid-lays false v = go (eqb v 0)
   where
     go : (t : Bool) → Lays (λ d. cond t d (bad 4 d)) (piece [] (tested t 0 4) ∷ [])
@@ -243,10 +244,10 @@ module _
 
 -- THE FIELDS OF A LAYOUT
 
-number-follows : (w low high n : ℕ) → Follows (λ xs c. numberField w low high n xs c .next) (copyField (number w low high n))
-number-follows w low high n =
-    follows-by (λ xs c. numberField w low high n xs c .value) (λ xs c. numberField w low high n xs c .next) (number-local w low high n) (number-off w low high n)
-    (λ v xs c. c) (λ v xs d. d) (λ v. follows-none) (number-local w low high n)
+number-follows : (w low high : ℕ) → Follows (λ xs c. numberField w low high 4 xs c .next) (copyField (number w low high))
+number-follows w low high =
+    follows-by (λ xs c. numberField w low high 4 xs c .value) (λ xs c. numberField w low high 4 xs c .next) (number-local w low high 4) (number-off w low high 4)
+    (λ v xs c. c) (λ v xs d. d) (λ v. follows-none) (number-local w low high 4)
 
 letter-follows : (set : List ℕ) → Follows (λ xs c. letterField set xs c .next) (copyField (letter set))
 letter-follows set =
@@ -271,14 +272,14 @@ column-follows : Follows columnEnd copyColumn
 unfolding columnEnd
 column-follows =
     follows-by (λ xs c. letterField columnLetters xs c .value) (λ xs c. letterField columnLetters xs c .next) (letter-local columnLetters) (letter-off columnLetters)
-    (λ v xs c. cond (eqb v 0x74 || eqb v 0x62) (valueField xs c .next) c) (λ v xs d. cond (eqb v 0x74 || eqb v 0x62) (copyValue xs d) d) (λ v. go (eqb v 0x74 || eqb v 0x62)) column-local
+    (λ v xs c. cond (hasValue v) (valueField xs c .next) c) (λ v xs d. cond (hasValue v) (copyValue xs d) d) (λ v. go (hasValue v)) column-local
   where
     go : (t : Bool) → Follows (λ xs c. cond t (valueField xs c .next) c) (λ xs d. cond t (copyValue xs d) d)
     go true = value-follows
     go false = follows-none
 
 field-follows : (f : Field) → Follows (λ xs c. readField f xs c .next) (copyField f)
-field-follows (number w low high n) = number-follows w low high n
+field-follows (number w low high) = number-follows w low high
 field-follows (constant k) = letter-follows (k ∷ [])
 field-follows (letter set) = letter-follows set
 field-follows text = text-follows
@@ -337,15 +338,27 @@ section-lays F G f src s =
 
 -- THE LAYOUT
 
+value-lays : (src : List ℕ) (s n : ℕ) → Lays (writeValue src s n) (valuePieces src s n)
+value-lays src s n =
+    lays-then (good (digits 4 n)) (writeBytes src s n) (lengthPiece n ∷ []) (contentPiece src s n ∷ [])
+    (field-sound value src (s ∷ n ∷ []) .0, tt) (good-lays (digits 4 n) 4 (length-digits 4 n)) (content-lays src s n)
+
 field-lays : (f : Field) (src v : List ℕ) → Lays (writeField f src v) (fieldPieces f src v)
-field-lays (number w low high n) src v = number-lays w low high n (getD v 0 0)
+field-lays (number w low high) src v = number-lays w low high 4 (getD v 0 0)
 field-lays (constant k) src v = good-lays (k ∷ []) 1 refl
 field-lays (letter set) src v = letter-lays set (getD v 0 0)
 field-lays text src v = text-lays src (getD v 0 0) (getD v 1 0)
-field-lays value src v =
-    lays-then (good (digits 4 (getD v 1 0))) (writeBytes src (getD v 0 0) (getD v 1 0)) (lengthPiece (getD v 1 0) ∷ []) (contentPiece src (getD v 0 0) (getD v 1 0) ∷ [])
-    (field-sound value src v .0, tt) (good-lays (digits 4 (getD v 1 0)) 4 (length-digits 4 (getD v 1 0))) (content-lays src (getD v 0 0) (getD v 1 0))
-field-lays column src v = section-lays columnEnd copyColumn column-follows src (getD v 0 0)
+field-lays value src v = value-lays src (getD v 0 0) (getD v 1 0)
+field-lays column src v = go (hasValue (getD v 0 0))
+  where
+    go :
+        (t : Bool)
+        → Lays (λ d. cond t (writeValue src (getD v 1 0) (getD v 2 0) (writeLetter columnLetters (getD v 0 0) d)) (writeLetter columnLetters (getD v 0 0) d))
+        (letterPiece columnLetters (getD v 0 0) ∷ cond t (valuePieces src (getD v 1 0) (getD v 2 0)) [])
+    go true =
+        lays-then (writeLetter columnLetters (getD v 0 0)) (writeValue src (getD v 1 0) (getD v 2 0)) (letterPiece columnLetters (getD v 0 0) ∷ []) (valuePieces src (getD v 1 0) (getD v 2 0))
+        (field-sound column src v .0, tt) (letter-lays columnLetters (getD v 0 0)) (value-lays src (getD v 1 0) (getD v 2 0))
+    go false = letter-lays columnLetters (getD v 0 0)
 
 group-lays : (fs : List Field) (src v : List ℕ) → Lays (writeGroup fs src v) (groupPieces fs src v)
 group-lays [] src v = lays-none

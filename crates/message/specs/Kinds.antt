@@ -5,7 +5,8 @@ use mathlib.Core.List.{List, [], _∷_}
 use mathlib.Core.Bool.{cond}
 use mathlib.Core.Option.{Option, none, some}
 use lib.Dec.{eqb}
-use Rattle.message.specs.Layout.{Field, Part, one, blockXid, groups, tuple, optionalTuple, number, constant, letter, text, value, mostColumns}
+use Rattle.wire.specs.Numbers.{most32, most64}
+use Rattle.message.specs.Layout.{Field, Part, one, blockXid, groups, tuple, optionalTuple, number, constant, letter, text, value, id, mostColumns}
 
 pub data Kind : Type 0 where
   begin : Kind
@@ -63,15 +64,11 @@ firstVersion streamAbort = 2
 -- THE FIELDS OF THE TABLE
 
 abbrev pub lsn : Part
-lsn = one (number 8 0 0xFFFF_FFFF_FFFF_FFFF 4)
+lsn = one (number 8 0 most64)
 
 -- microseconds since 2000-01-01, signed: its 64 bits
 abbrev pub time : Part
-time = one (number 8 0 0xFFFF_FFFF_FFFF_FFFF 4)
-
--- an xid, sub-xid or relation OID: not 0 (HOUSE)
-abbrev pub id : Field
-id = number 4 1 0xFFFF_FFFF 4
+time = one (number 8 0 most64)
 
 abbrev pub xid : Part
 xid = one id
@@ -81,14 +78,14 @@ relationOid = one id
 
 -- free: 0 too
 abbrev pub any32 : Field
-any32 = number 4 0 0xFFFF_FFFF 4
+any32 = number 4 0 most32
 
 abbrev pub typeOid : Part
 typeOid = one any32
 
 -- a byte from 0 to `high`
 abbrev pub upTo : ℕ → Field
-upTo high = number 1 0 high 4
+upTo high = number 1 0 high
 
 abbrev pub flags : ℕ → Part
 flags high = one (upTo high)

@@ -3,16 +3,21 @@ use Prim.Native.Nat.{ℕ, zero, suc}
 use mathlib.Core.List.{List, [], _∷_, _++_}
 use mathlib.Core.Bool.{Bool, cond, _||_}
 use lib.Dec.{eqb}
+use lib.ListN.{getD}
 use Rattle.wire.specs.declared.Cursor.{Cursor}
+use Rattle.wire.specs.declared.Field64.{Field64}
 use Rattle.wire.specs.declared.Field32.{Field32}
-use Rattle.wire.specs.Fields.{numberField, letterField, textField, valueField, positionOf, noNumber, narrow32}
+use Rattle.wire.specs.declared.Field8.{Field8}
+use Rattle.wire.specs.declared.Span.{Span}
+use Rattle.wire.specs.Numbers.{most32}
+use Rattle.wire.specs.Fields.{numberField, letterField, textField, valueField, positionOf, noNumber, noSpan, narrow32}
 
 -- THE DESCRIPTORS
 
 -- a field that is read whole
 pub data Field : Type 0 where
-  -- w bytes that spell a number from `low` to `high`, else refusal n
-  number : (w low high n : ℕ) → Field
+  -- w bytes that spell a number from `low` to `high`
+  number : (w low high : ℕ) → Field
   -- this letter, which gives no number
   constant : ℕ → Field
   -- one of these letters
@@ -35,32 +40,57 @@ pub data Part : Type 0 where
   -- one of these letters and a tuple, or nothing
   optionalTuple : List ℕ → Part
 
--- READING
+-- NUMBERS AND LETTERS, each named once
 
--- what reading gives: numbers, and where reading stands.
--- A text or value gives its start and length; groups their count, the numbers between and where the first group starts;
--- a tuple or a column where it starts; an optional tuple its letter and start, or 0 and 0
-pub record Step : Type 0 where
-  pub values : List ℕ
-  pub next : Cursor
+-- an xid, sub-xid or relation OID: not 0 (HOUSE)
+abbrev pub id : Field
+id = number 4 1 most32
+
+-- the most columns that a tuple or a relation has (document 01, "Numbers that bound it")
+abbrev pub mostColumns : ℕ
+mostColumns = 1600
 
 -- the letters of a column: null, unchanged, text, binary
 abbrev pub columnLetters : List ℕ
 columnLetters = 0x6E ∷ 0x75 ∷ 0x74 ∷ 0x62 ∷ []
 
--- the end of a column: `t` and `b` have a value, `n` and `u` have none
+-- `t` and `b` have a value, `n` and `u` have none
+abbrev pub hasValue : ℕ → Bool
+hasValue l = eqb l 0x74 || eqb l 0x62
+
+-- READING
+
+-- what reading gives: numbers, and where reading stands.
+-- A text or value gives its start and length; groups their count, the numbers between and where the first group starts;
+-- a tuple where it starts; an optional tuple its letter and start, or 0 and 0;
+-- a column its letter and its value's start and length, 0 and 0 where it has none
+pub record Step : Type 0 where
+  pub values : List ℕ
+  pub next : Cursor
+
+-- a column's letter, its value, and its end
+abbrev pub columnLetter : List ℕ → Cursor → Field8
+columnLetter xs c = letterField columnLetters xs c
+
+unfoldable pub columnValue : List ℕ → Cursor → Span
+columnValue xs c =
+    let k = columnLetter xs c in
+    cond (hasValue (k .value)) (valueField xs (k .next) .value) (noSpan c .value)
+
 unfoldable pub columnEnd : List ℕ → Cursor → Cursor
 columnEnd xs c =
-    let k = letterField columnLetters xs c in
-    cond (eqb (k .value) 0x74 || eqb (k .value) 0x62) (valueField xs (k .next) .next) (k .next)
+    let k = columnLetter xs c in
+    cond (hasValue (k .value)) (valueField xs (k .next) .next) (k .next)
 
 abbrev pub readField : Field → List ℕ → Cursor → Step
-readField (number w low high n) xs c = let f = numberField w low high n xs c in record { values = f .value ∷ []; next = f .next }
+readField (number w low high) xs c = let f = numberField w low high 4 xs c in record { values = f .value ∷ []; next = f .next }
 readField (constant k) xs c = record { values = []; next = letterField (k ∷ []) xs c .next }
 readField (letter set) xs c = let f = letterField set xs c in record { values = f .value ∷ []; next = f .next }
 readField text xs c = let f = textField xs c in record { values = f .value .start ∷ f .value .length ∷ []; next = f .next }
 readField value xs c = let f = valueField xs c in record { values = f .value .start ∷ f .value .length ∷ []; next = f .next }
-readField column xs c = record { values = positionOf c ∷ []; next = columnEnd xs c }
+readField column xs c =
+    let v = columnValue xs c in
+    record { values = columnLetter xs c .value ∷ v .start ∷ v .length ∷ []; next = columnEnd xs c }
 
 abbrev pub readGroup : List Field → List ℕ → Cursor → Step
 readGroup [] xs c = record { values = []; next = c }
@@ -86,13 +116,13 @@ readGroups w low high between fs xs c =
       next = groupsEnd fs xs (n .value) (b .next);
     }
 
--- the most columns that a tuple or a relation has
-abbrev pub mostColumns : ℕ
-mostColumns = 1600
+-- how many columns a tuple has
+abbrev pub columnCount : List ℕ → Cursor → Field64
+columnCount xs c = numberField 2 0 mostColumns 6 xs c
 
 -- the end of a tuple: a count of columns, and the columns
 unfoldable pub tupleEnd : List ℕ → Cursor → Cursor
-tupleEnd xs c = readGroups 2 0 mostColumns [] (column ∷ []) xs c .next
+tupleEnd xs c = let n = columnCount xs c in groupsEnd (column ∷ []) xs (n .value) (n .next)
 
 pub record Optional : Type 0 where
   pub letter : ℕ
@@ -107,9 +137,13 @@ optional set xs c =
     (record { letter = 0; start = 0; next = c })
     (record { letter = k .value; start = positionOf (k .next); next = tupleEnd xs (k .next) })
 
+-- the number that a field gives
+abbrev pub numberOf : Field → List ℕ → Cursor → Field64
+numberOf f xs c = let s = readField f xs c in record { value = getD (s .values) 0 0; next = s .next }
+
 -- an xid inside a block, and outside 0 and no byte
 unfoldable pub xidField : Bool → List ℕ → Cursor → Field32
-xidField b xs c = narrow32 (cond b (numberField 4 1 0xFFFFFFFF 4 xs c) (noNumber c))
+xidField b xs c = narrow32 (cond b (numberOf id xs c) (noNumber c))
 
 abbrev pub readPart : Bool → Part → List ℕ → Cursor → Step
 readPart b (one f) xs c = readField f xs c

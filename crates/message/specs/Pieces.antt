@@ -8,10 +8,11 @@ use lib.ListN.{length, getD, take, drop}
 use lib.Dec.{eqb, leb}
 use Rattle.wire.specs.declared.Cursor.{Cursor}
 use Rattle.wire.specs.declared.Cursor.the-variants.{At, Refused}
+use Rattle.wire.specs.Numbers.{most32}
 use Rattle.wire.specs.Fields.{inRange, member}
 use Rattle.message.specs.declared.Version.{Version}
 use Rattle.message.specs.declared.Message.{Message}
-use Rattle.message.specs.Layout.{Field, Part, number, constant, letter, text, value, column, one, blockXid, groups, tuple, optionalTuple, columnEnd, groupsEnd, tupleEnd}
+use Rattle.message.specs.Layout.{Field, Part, number, constant, letter, text, value, column, one, blockXid, groups, tuple, optionalTuple, columnLetters, hasValue, groupsEnd, tupleEnd}
 use Rattle.message.specs.Kinds.{layout, letterOf}
 use Rattle.message.specs.Versions.{versionAllows, versionHas}
 use Rattle.message.specs.Messages.{largest}
@@ -84,19 +85,26 @@ sectionPiece src start end = record { bytes = fromTo src start end; start = star
 abbrev pub xidBytes : Bool → ℕ → List ℕ
 xidBytes b v = cond b (digits 4 v) []
 
+-- an id that is not 0
+abbrev pub idJudgement : ℕ → Cursor
+idJudgement v = tested (inRange 1 most32 v) 4 4
+
 abbrev pub xidJudgement : Bool → ℕ → Cursor
-xidJudgement b v = cond b (tested (inRange 1 0xFFFFFFFF v) 4 4) (tested (eqb v 0) 0 4)
+xidJudgement b v = cond b (idJudgement v) (tested (eqb v 0) 0 4)
 
 abbrev pub xidPiece : Bool → ℕ → Piece
 xidPiece b v = piece (xidBytes b v) (xidJudgement b v)
 
+abbrev pub valuePieces : List ℕ → (start n : ℕ) → List Piece
+valuePieces src start n = lengthPiece n ∷ contentPiece src start n ∷ []
+
 abbrev pub fieldPieces : Field → List ℕ → List ℕ → List Piece
-fieldPieces (number w low high n) src v = numberPiece w low high n (getD v 0 0) ∷ []
+fieldPieces (number w low high) src v = numberPiece w low high 4 (getD v 0 0) ∷ []
 fieldPieces (constant k) src v = bytePiece k ∷ []
 fieldPieces (letter set) src v = letterPiece set (getD v 0 0) ∷ []
 fieldPieces text src v = textPiece src (getD v 0 0) (getD v 1 0) ∷ []
-fieldPieces value src v = lengthPiece (getD v 1 0) ∷ contentPiece src (getD v 0 0) (getD v 1 0) ∷ []
-fieldPieces column src v = sectionPiece src (getD v 0 0) (columnEnd src (At (getD v 0 0))) ∷ []
+fieldPieces value src v = valuePieces src (getD v 0 0) (getD v 1 0)
+fieldPieces column src v = letterPiece columnLetters (getD v 0 0) ∷ cond (hasValue (getD v 0 0)) (valuePieces src (getD v 1 0) (getD v 2 0)) []
 
 abbrev pub groupPieces : List Field → List ℕ → List ℕ → List Piece
 groupPieces [] src v = []

@@ -11,8 +11,8 @@ use Rattle.message.specs.declared.OldTuple.{OldTuple}
 use Rattle.message.specs.declared.OldTuple.the-variants.{Nothing, Key, Full}
 use Rattle.message.specs.declared.Message.{Message}
 use Rattle.message.specs.declared.Message.the-variants as a
-use Rattle.message.specs.Layout.{groupsEnd, tupleEnd}
-use Rattle.message.specs.Kinds.{columnFields, id}
+use Rattle.message.specs.Layout.{id, groupsEnd, tupleEnd}
+use Rattle.message.specs.Kinds.{columnFields}
 use Rattle.message.specs.Encode.{cut, fromTo, kindOfMessage}
 
 -- a number; the bytes of a text, a content, a tuple, a Relation's columns or a Truncate's OIDs

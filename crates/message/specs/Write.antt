@@ -2,7 +2,7 @@
 -- (document 01, the paragraph on writing under "The refusal table").
 use Prim.Native.Nat.{ℕ, zero, suc, _+_, _-_}
 use mathlib.Core.List.{List, [], _∷_, _++_}
-use mathlib.Core.Bool.{Bool, not, cond, _||_}
+use mathlib.Core.Bool.{Bool, not, cond}
 use mathlib.Core.Option.{some}
 use lib.ListN.{length, getD, take, drop}
 use lib.Dec.{eqb, leb}
@@ -11,7 +11,7 @@ use Rattle.wire.specs.declared.Cursor.the-variants.{At, Refused}
 use Rattle.wire.specs.Fields.{inRange, member, numberField, letterField, textField, bytesField}
 use Rattle.message.specs.declared.Version.{Version}
 use Rattle.message.specs.declared.Message.{Message}
-use Rattle.message.specs.Layout.{Field, Part, number, constant, letter, text, value, column, one, blockXid, groups, tuple, optionalTuple, columnLetters, mostColumns}
+use Rattle.message.specs.Layout.{Field, Part, number, constant, letter, text, value, column, one, blockXid, groups, tuple, optionalTuple, id, columnLetters, hasValue, columnLetter, columnCount}
 use Rattle.message.specs.Kinds.{layout, letterOf}
 use Rattle.message.specs.Versions.{versionAllows, versionHas}
 use Rattle.message.specs.Messages.{largest}
@@ -61,12 +61,12 @@ copyValue src c =
 -- a letter, and where it says so a value
 abbrev pub copyColumn : List ℕ → Copy → Copy
 copyColumn src c =
-    let k = letterField columnLetters src (At (c .from)) in
+    let k = columnLetter src (At (c .from)) in
     let d = copied src (k .next) c in
-    cond (eqb (k .value) 0x74 || eqb (k .value) 0x62) (copyValue src d) d
+    cond (hasValue (k .value)) (copyValue src d) d
 
 abbrev pub copyField : Field → List ℕ → Copy → Copy
-copyField (number w low high n) src c = copied src (numberField w low high n src (At (c .from)) .next) c
+copyField (number w low high) src c = copied src (numberField w low high 4 src (At (c .from)) .next) c
 copyField (constant k) src c = copied src (letterField (k ∷ []) src (At (c .from)) .next) c
 copyField (letter set) src c = copied src (letterField set src (At (c .from)) .next) c
 copyField text src c = copied src (textField src (At (c .from)) .next) c
@@ -84,7 +84,7 @@ copyGroups (suc n) fs src c = copyGroups n fs src (copyGroup fs src c)
 -- a tuple: a count of columns, and the columns
 abbrev pub copyTuple : List ℕ → Copy → Copy
 copyTuple src c =
-    let n = numberField 2 0 mostColumns 6 src (At (c .from)) in
+    let n = columnCount src (At (c .from)) in
     copyGroups (n .value) (column ∷ []) src (copied src (n .next) c)
 
 -- WHAT THE MESSAGE GIVES
@@ -105,23 +105,32 @@ writeText src start n d =
 abbrev pub writeBytes : List ℕ → (start n : ℕ) → Writing → Writing
 writeBytes src start n d = cond (leb (start + n) (length src)) (good (cut src start n) d) (bad 2 d)
 
--- the numbers v of a field; a length that is too big for its field makes the message too long at its bytes
+-- a length and its bytes; one that is too big for its field makes the message too long at its bytes
+abbrev pub writeValue : List ℕ → (start n : ℕ) → Writing → Writing
+writeValue src start n d = writeBytes src start n (good (digits 4 n) d)
+
+-- a letter, and where it says so a value
+abbrev pub writeColumn : List ℕ → (l start n : ℕ) → Writing → Writing
+writeColumn src l start n d =
+    cond (hasValue l) (writeValue src start n (writeLetter columnLetters l d)) (writeLetter columnLetters l d)
+
+-- the numbers v of a field
 abbrev pub writeField : Field → List ℕ → List ℕ → Writing → Writing
-writeField (number w low high n) src v d = writeNumber w low high n (getD v 0 0) d
+writeField (number w low high) src v d = writeNumber w low high 4 (getD v 0 0) d
 writeField (constant k) src v d = good (k ∷ []) d
 writeField (letter set) src v d = writeLetter set (getD v 0 0) d
 writeField text src v d = writeText src (getD v 0 0) (getD v 1 0) d
-writeField value src v d = writeBytes src (getD v 0 0) (getD v 1 0) (good (digits 4 (getD v 1 0)) d)
-writeField column src v d = copyColumn src (copy (getD v 0 0) d) .to
+writeField value src v d = writeValue src (getD v 0 0) (getD v 1 0) d
+writeField column src v d = writeColumn src (getD v 0 0) (getD v 1 0) (getD v 2 0) d
 
 -- how many numbers a field has
 abbrev pub arity : Field → ℕ
-arity (number w low high n) = 1
+arity (number w low high) = 1
 arity (constant k) = 0
 arity (letter set) = 1
 arity text = 2
 arity value = 2
-arity column = 1
+arity column = 3
 
 abbrev pub arities : List Field → ℕ
 arities [] = 0
@@ -134,7 +143,7 @@ writeGroup (f ∷ fs) src v d = writeGroup fs src (drop (arity f) v) (writeField
 -- an xid that is given where the layout has none, or lacks where it has one, is refused
 abbrev pub writePart : Bool → Part → List ℕ → List ℕ → Writing → Writing
 writePart b (one f) src v d = writeField f src v d
-writePart b blockXid src v d = cond b (writeNumber 4 1 0xFFFFFFFF 4 (getD v 0 0) d) (cond (eqb (getD v 0 0) 0) d (bad 4 d))
+writePart b blockXid src v d = cond b (writeField id src v d) (cond (eqb (getD v 0 0) 0) d (bad 4 d))
 writePart b (groups w low high between fs) src v d =
     let start = getD (drop 1 v) (arities between) 0 in
     copyGroups (getD v 0 0) fs src (copy start (writeGroup between src (drop 1 v) (writeNumber w low high 6 (getD v 0 0) d))) .to

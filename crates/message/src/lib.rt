@@ -4,10 +4,17 @@ ghost use Rattle.message.specs.Versions.{versionAllows, versionHas};
 use wire::Refusal;
 use wire::Span;
 
+pub mod fields;
 pub mod kind;
 
 // The largest message, in bytes.
 pub const LARGEST: usize = 1_073_741_823;
+
+// The most columns of a tuple or a relation.
+pub const MOST_COLUMNS: u16 = 1600;
+
+// The most relations of a Truncate.
+pub const MOST_RELATIONS: u32 = 256;
 
 // A protocol version: any number, known or not.
 pub struct Version {
@@ -188,12 +195,12 @@ pub fn kind_of(letter: u8) -> u8
     ensures { λ r. ⌜ r ≡ kindNumber (kindOf letter) ⌝ }
 {
     match letter {
-        b'I' => kind::OF_LETTER[73],
-        b'U' => kind::OF_LETTER[85],
-        b'D' => kind::OF_LETTER[68],
-        b'B' => kind::OF_LETTER[66],
-        b'C' => kind::OF_LETTER[67],
-        b'R' => kind::OF_LETTER[82],
+        b'I' => kind::OF_LETTER[b'I' as usize],
+        b'U' => kind::OF_LETTER[b'U' as usize],
+        b'D' => kind::OF_LETTER[b'D' as usize],
+        b'B' => kind::OF_LETTER[b'B' as usize],
+        b'C' => kind::OF_LETTER[b'C' as usize],
+        b'R' => kind::OF_LETTER[b'R' as usize],
         _ => kind::OF_LETTER[letter as usize],
     }
 }

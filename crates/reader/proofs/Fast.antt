@@ -1,13 +1,12 @@
 -- The good path of a column, and of columns one after the other. Assumes nothing.
 use Prim.Native.Nat.{ℕ, _+_, _<_, _≤_}
 use mathlib.Core.List.{List, [], _∷_}
-use mathlib.Core.Bool.{Bool, true, false, cond, _||_}
+use mathlib.Core.Bool.{Bool, true, false, cond}
 use mathlib.Core.Path.{_≡_, refl, ap, sym, _∙_}
 use mathlib.Core.Logic.{_⊎_, inl, inr}
 use native.Mathlib.Omega.{arith}
 use borrow.Author.Tests.{lt-ltb, le-ltb, ne-eqb}
 use lib.ListN.{length, getD}
-use lib.Dec.{eqb}
 use Rattle.wire.specs.declared.Cursor.{Cursor}
 use Rattle.wire.specs.declared.Cursor.the-variants.{At, Refused}
 use Rattle.wire.specs.declared.Field8.{Field8}
@@ -15,7 +14,7 @@ use Rattle.wire.specs.Fields.{letterField, valueField, valueEnd, member, positi
 use Rattle.wire.proofs.Cases.{letter-cases}
 use Rattle.wire.proofs.There.{no}
 use Rattle.wire.proofs.Values.{end-of-value}
-use Rattle.message.specs.Layout.{columnLetters, column, columnEnd, groupsEnd}
+use Rattle.message.specs.Layout.{columnLetters, hasValue, column, columnEnd, groupsEnd}
 use Rattle.message.proofs.Local.{column-local, value-local}
 use Rattle.reader.proofs.Groups.{refused}
 
@@ -58,8 +57,8 @@ module _ (xs : List ℕ) (at : ℕ) where
   unfolding columnEnd
   ahead e =
       letter-cases columnLetters xs at
-      (λ (k : Field8). cond (eqb (k .value) 0x74 || eqb (k .value) 0x62) (valueField xs (k .next) .next) (k .next) ≡ At e → 0 < e)
-      (λ n q. no refl q) (λ h m. go (eqb (getD xs at 0) 0x74 || eqb (getD xs at 0) 0x62))
+      (λ (k : Field8). cond (hasValue (k .value)) (valueField xs (k .next) .next) (k .next) ≡ At e → 0 < e)
+      (λ n q. no refl q) (λ h m. go (hasValue (getD xs at 0)))
     where
       go : (t : Bool) → cond t (valueField xs (At (at + 1)) .next) (At (at + 1)) ≡ At e → 0 < e
       go true q = omega (arith, value-local .ahead xs (at + 1) e q)

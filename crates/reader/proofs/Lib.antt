@@ -3,4 +3,4 @@ pub mod End
 pub mod Groups
 pub mod Fast
 pub mod Offset
-pub mod Columns
+pub mod OldTuples

@@ -1,11 +1,9 @@
 // The messages that a transaction's work makes: Insert, Update, Delete, Truncate and the logical message.
 ghost use mathlib.Core.Path.{_≡_};
 ghost use mathlib.Core.List.{[], _∷_};
-ghost use Rattle.message.specs.Layout.{groupsEnd};
-ghost use Rattle.message.specs.Kinds.{id, insert, update, delete, truncate, message};
+ghost use Rattle.message.specs.Layout.{id, groupsEnd};
+ghost use Rattle.message.specs.Kinds.{insert, update, delete, truncate, message};
 ghost use Rattle.message.specs.Messages.{readKind};
-use crate::MAX32;
-use crate::MAX64;
 use crate::OldField;
 use crate::framing;
 use crate::tuples;
@@ -16,14 +14,13 @@ use message::Message;
 use message::Read;
 use message::Truncate;
 use message::Update;
+use message::fields;
 use wire::Cursor;
 use wire::Field8;
 use wire::Field32;
 use wire::Field64;
 use wire::FieldSpan;
 use wire::Refusal;
-
-const MOST_RELATIONS: u32 = 256;
 
 // The end of `n` OIDs of a Truncate. A refusal ends the loop, however many are left.
 pub fn relation_oids(s: &[u8], c: Cursor, n: u32) -> Cursor
@@ -32,7 +29,7 @@ pub fn relation_oids(s: &[u8], c: Cursor, n: u32) -> Cursor
     let mut left = n;
     let mut at = c;
     while 0 < left {
-        let Field32 { value: _, next } = wire::number32(s, at, 1, MAX32, Refusal::FIELD);
+        let Field32 { value: _, next } = fields::id(s, at);
         if let Cursor::Refused {
             number: _,
             offset: _,
@@ -52,7 +49,7 @@ pub fn read_insert(s: &[u8], in_block: bool) -> Read
     let Field32 {
         value: relation,
         next,
-    } = wire::number32(s, next, 1, MAX32, Refusal::FIELD);
+    } = fields::id(s, next);
     let Field8 { value: _, next } = wire::letter(s, next, b"N");
     let tuple = wire::position(next);
     let next = tuples::tuple_after(s, next);
@@ -74,7 +71,7 @@ pub fn read_update(s: &[u8], in_block: bool) -> Read
     let Field32 {
         value: relation,
         next,
-    } = wire::number32(s, next, 1, MAX32, Refusal::FIELD);
+    } = fields::id(s, next);
     let OldField { value: old, next } = tuples::old_tuple(s, next);
     let Field8 { value: _, next } = wire::letter(s, next, b"N");
     let tuple = wire::position(next);
@@ -98,7 +95,7 @@ pub fn read_delete(s: &[u8], in_block: bool) -> Read
     let Field32 {
         value: relation,
         next,
-    } = wire::number32(s, next, 1, MAX32, Refusal::FIELD);
+    } = fields::id(s, next);
     let Field8 { value: image, next } = wire::letter(s, next, b"KO");
     let tuple = wire::position(next);
     let next = tuples::tuple_after(s, next);
@@ -118,7 +115,13 @@ pub fn read_truncate(s: &[u8], in_block: bool) -> Read
     ensures { λ r. ⌜ r ≡ readKind truncate «in_block» (now (s .entry)) ⌝ }
 {
     let Field32 { value: xid, next } = framing::block_xid(s, Cursor::At(1), in_block);
-    let Field32 { value: count, next } = wire::number32(s, next, 1, MOST_RELATIONS, Refusal::RANGE);
+    let Field32 { value: count, next } = wire::number32(
+        s,
+        next,
+        1,
+        message::MOST_RELATIONS,
+        Refusal::RANGE,
+    );
     let Field8 {
         value: options,
         next,
@@ -142,7 +145,7 @@ pub fn read_logical_message(s: &[u8], in_block: bool) -> Read
 {
     let Field32 { value: xid, next } = framing::block_xid(s, Cursor::At(1), in_block);
     let Field8 { value: flags, next } = wire::number8(s, next, 0, 1, Refusal::FIELD);
-    let Field64 { value: lsn, next } = wire::number64(s, next, 0, MAX64, Refusal::FIELD);
+    let Field64 { value: lsn, next } = wire::number64(s, next, 0, u64::MAX, Refusal::FIELD);
     let FieldSpan {
         value: prefix,
         next,

@@ -2,9 +2,9 @@
 ghost use mathlib.Core.Path.{_≡_};
 ghost use Rattle.message.specs.Layout.{xidField};
 ghost use Rattle.message.specs.Messages.{finished, settled};
-use crate::MAX32;
 use message::Message;
 use message::Read;
+use message::fields;
 use wire::Cursor;
 use wire::Field32;
 use wire::Refusal;
@@ -33,7 +33,7 @@ pub fn block_xid(s: &[u8], c: Cursor, in_block: bool) -> Field32
     ensures { λ r. ⌜ r ≡ xidField «in_block» (now (s .entry)) c ⌝ }
 {
     if in_block {
-        wire::number32(s, c, 1, MAX32, Refusal::FIELD)
+        fields::id(s, c)
     } else {
         Field32 { value: 0, next: c }
     }

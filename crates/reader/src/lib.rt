@@ -25,12 +25,6 @@ pub use transactions::read_commit;
 pub use tuples::tuple_end;
 pub use tuples::tuple_end_offset;
 
-const MAX32: u32 = 0xFFFF_FFFF;
-
-const MAX64: u64 = 0xFFFF_FFFF_FFFF_FFFF;
-
-const MOST_COLUMNS: u16 = 1600;
-
 // An Update's old tuple, and where reading stands after it.
 pub struct OldField {
     pub value: OldTuple,

@@ -3,13 +3,12 @@ ghost use mathlib.Core.Path.{_≡_};
 ghost use Rattle.message.specs.Layout.{readGroup, groupsEnd};
 ghost use Rattle.message.specs.Kinds.{columnFields, relation, type};
 ghost use Rattle.message.specs.Messages.{readKind};
-use crate::MAX32;
-use crate::MOST_COLUMNS;
 use crate::framing;
 use message::Message;
 use message::Read;
 use message::Relation;
 use message::Type;
+use message::fields;
 use wire::Cursor;
 use wire::Field8;
 use wire::Field16;
@@ -23,8 +22,8 @@ fn relation_column(s: &[u8], c: Cursor) -> Cursor
 {
     let Field8 { value: _, next } = wire::number8(s, c, 0, 1, Refusal::FIELD);
     let FieldSpan { value: _, next } = wire::text(s, next);
-    let Field32 { value: _, next } = wire::number32(s, next, 0, MAX32, Refusal::FIELD);
-    let Field32 { value: _, next } = wire::number32(s, next, 0, MAX32, Refusal::FIELD);
+    let Field32 { value: _, next } = wire::number32(s, next, 0, u32::MAX, Refusal::FIELD);
+    let Field32 { value: _, next } = wire::number32(s, next, 0, u32::MAX, Refusal::FIELD);
     next
 }
 
@@ -48,7 +47,7 @@ pub fn read_relation(s: &[u8], in_block: bool) -> Read
     let Field32 {
         value: relation,
         next,
-    } = wire::number32(s, next, 1, MAX32, Refusal::FIELD);
+    } = fields::id(s, next);
     let FieldSpan {
         value: namespace,
         next,
@@ -58,7 +57,7 @@ pub fn read_relation(s: &[u8], in_block: bool) -> Read
         value: identity,
         next,
     } = wire::letter(s, next, b"dnfi");
-    let Field16 { value: count, next } = wire::number16(s, next, 0, MOST_COLUMNS, Refusal::RANGE);
+    let Field16 { value: count, next } = fields::column_count(s, next);
     let columns = wire::position(next);
     let next = relation_columns(s, next, count);
     framing::settle(
@@ -80,7 +79,7 @@ pub fn read_type(s: &[u8], in_block: bool) -> Read
     ensures { λ r. ⌜ r ≡ readKind type «in_block» (now (s .entry)) ⌝ }
 {
     let Field32 { value: xid, next } = framing::block_xid(s, Cursor::At(1), in_block);
-    let Field32 { value: oid, next } = wire::number32(s, next, 0, MAX32, Refusal::FIELD);
+    let Field32 { value: oid, next } = wire::number32(s, next, 0, u32::MAX, Refusal::FIELD);
     let FieldSpan {
         value: namespace,
         next,

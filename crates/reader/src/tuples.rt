@@ -9,25 +9,20 @@ ghost use Rattle.message.specs.Layout.{column, columnEnd, groupsEnd, tupleEnd};
 ghost use Rattle.message.specs.Messages.{largest};
 ghost use Rattle.reader.specs.Old.{oldField};
 ghost use Rattle.reader.specs.Offset.{tupleEndOffset};
-use crate::MOST_COLUMNS;
 use crate::OldField;
 use message::OldTuple;
+use message::fields;
 use wire::Cursor;
 use wire::Field8;
 use wire::Field16;
 use wire::FieldSpan;
-use wire::Refusal;
 
 // The end of a column of a tuple.
 fn tuple_column(s: &[u8], c: Cursor) -> Cursor
     ensures { λ r. ⌜ r ≡ columnEnd (now (s .entry)) c ⌝ }
 {
-    let Field8 { value, next } = wire::letter(s, c, b"nutb");
-    if value == b't' {
-        let FieldSpan { value: _, next } = wire::value(s, next);
-        return next;
-    }
-    if value == b'b' {
+    let Field8 { value, next } = fields::column_letter(s, c);
+    if fields::has_value(value) {
         let FieldSpan { value: _, next } = wire::value(s, next);
         return next;
     }
@@ -88,13 +83,7 @@ pub fn tuple_end_offset(s: &[u8], start: usize) -> usize
     if message::LARGEST < s.len() {
         return 0;
     }
-    let Field16 { value, next } = wire::number16(
-        s,
-        Cursor::At(start),
-        0,
-        MOST_COLUMNS,
-        Refusal::RANGE,
-    );
+    let Field16 { value, next } = fields::column_count(s, Cursor::At(start));
     match next {
         Cursor::Refused {
             number: _,
@@ -108,7 +97,7 @@ pub fn tuple_end_offset(s: &[u8], start: usize) -> usize
 pub fn tuple_end(s: &[u8], c: Cursor) -> Cursor
     ensures { λ r. ⌜ r ≡ tupleEnd (now (s .entry)) c ⌝ }
 {
-    let Field16 { value, next } = wire::number16(s, c, 0, MOST_COLUMNS, Refusal::RANGE);
+    let Field16 { value, next } = fields::column_count(s, c);
     columns_exact(s, next, value)
 }
 

@@ -12,18 +12,18 @@ use Rattle.wire.specs.declared.Word.{Word}
 use Rattle.wire.specs.declared.Word.the-variants.{Value, Short}
 use Rattle.wire.specs.declared.Cursor.{Cursor}
 use Rattle.wire.specs.declared.Cursor.the-variants.{At, Refused}
-use Rattle.wire.specs.Numbers.{wordAt}
+use Rattle.wire.specs.Numbers.{wordAt, most32}
 use Rattle.wire.specs.Fields.{numberField, judged, noNumber, letterField}
 use Rattle.wire.proofs.Fields.{value-le}
 use Rattle.message.specs.declared.Version.{Version}
 use Rattle.message.specs.declared.Message.{Message}
 use Rattle.message.specs.declared.Read.the-variants as read
-use Rattle.message.specs.Layout.{Part, one, blockXid, groups, tuple, optionalTuple, text, groupsEnd, optional, xidField, readPart, readFields}
+use Rattle.message.specs.Layout.{Part, id, numberOf, one, tuple, optionalTuple, text, xidField, readFields}
 use Rattle.message.specs.Kinds.{Kind, begin, commit, origin, relation, type, insert, update, delete, truncate, message, streamStart, streamStop, streamCommit, streamAbort, layout, identity, columns, lsn, time, flags, xid}
 use Rattle.message.specs.Messages.{messageOf, readMessage, largest}
 use Rattle.message.proofs.Accepted.{reached, accepted}
+use Rattle.message.proofs.Local.{fields-stay}
 use Rattle.catalog.specs.Table.{Small}
-use Rattle.columns.proofs.Stays.{field-stays, group-stays, groups-stay, tuple-stays}
 use Rattle.session.specs.Events.{Event, Begin, Commit, Origin, Relation, Change, Truncate, Neutral, Logical, StreamStart, StreamStop, StreamCommit, StreamAbort, eventOf}
 
 abbrev pub NonZero : ℕ → Type 0
@@ -65,35 +65,18 @@ number-within w low high n xs (At at) {e} q = word (wordAt w xs at) q
     word (Value v) q = test (leb low v) (leb v high) v refl refl q
 
 module _ (b : Bool) (xs : List ℕ) where
-  -- a refusal passes through every part of a layout
-  part-stays : (n o : ℕ) (p : Part) → readPart b p xs (Refused n o) .next ≡ Refused n o
-  unfolding numberField letterField optional xidField
-  part-stays n o (one f) = field-stays xs n o f
-  part-stays n o blockXid = go b
-    where
-      go : (v : Bool) → cond v (noNumber (Refused n o)) (noNumber (Refused n o)) .next ≡ Refused n o
-      go true = refl
-      go false = refl
-  part-stays n o (groups w low high between fs) = ap (groupsEnd fs xs 0) (group-stays xs n o between) ∙ groups-stay xs n o fs 0
-  part-stays n o tuple = tuple-stays xs n o
-  part-stays n o (optionalTuple set) = refl
-
-  fields-stay : (n o : ℕ) (ps : List Part) → readFields b ps xs (Refused n o) .next ≡ Refused n o
-  fields-stay n o [] = refl
-  fields-stay n o (p ∷ ps) = ap (λ (c : Cursor). readFields b ps xs c .next) (part-stays n o p) ∙ fields-stay n o ps
-
   -- an id that reading got past
-  pub id-then : (rest : List Part) (c : Cursor) (e : ℕ) → readFields b rest xs (numberField 4 1 0xFFFF_FFFF 4 xs c .next) .next ≡ At e
-      → NonZero (numberField 4 1 0xFFFF_FFFF 4 xs c .value) × Id (numberField 4 1 0xFFFF_FFFF 4 xs c .value)
+  pub id-then : (rest : List Part) (c : Cursor) (e : ℕ) → readFields b rest xs (numberOf id xs c .next) .next ≡ At e
+      → NonZero (numberOf id xs c .value) × Id (numberOf id xs c .value)
   id-then rest c e q =
-      let r = reached (λ (d : Cursor). readFields b rest xs d .next) (λ n o. fields-stay n o rest) (numberField 4 1 0xFFFF_FFFF 4 xs c .next) q in
-      let k = number-within 4 1 0xFFFF_FFFF 4 xs c (r .1) in
+      let r = reached (λ (d : Cursor). readFields b rest xs d .next) (fields-stay b xs rest) (numberOf id xs c .next) q in
+      let k = number-within 4 1 most32 4 xs c (r .1) in
       ((λ z. omega (arith, k .0, z)), ((λ z. omega (arith, k .0, z)), omega (arith, k .1)))
 
   -- the xid that a change carries in a block, else 0
   xid-fits : (v : Bool) (c : Cursor) → Small (xidField v xs c .value)
   unfolding xidField
-  xid-fits true c = omega (arith, value-le 4 1 0xFFFF_FFFF 4 xs c)
+  xid-fits true c = omega (arith, value-le 4 1 most32 4 xs c)
   xid-fits false c = omega arith
 
   kind-formed : (k : Kind) (e : ℕ) → readFields b (layout k) xs (At 1) .next ≡ At e → Formed (eventOf (messageOf k (readFields b (layout k) xs (At 1) .parts)) xs)

@@ -5,15 +5,15 @@ use mathlib.Core.Bool.{Bool}
 use mathlib.Core.Path.{_≡_}
 use Rattle.wire.specs.declared.Cursor.{Cursor}
 use Rattle.wire.specs.declared.Cursor.the-variants.{At}
-use Rattle.wire.specs.Fields.{numberField, positionOf}
+use Rattle.wire.specs.Fields.{positionOf}
 use Rattle.message.specs.declared.Version.{Version}
 use Rattle.message.specs.declared.Message.{Message}
 use Rattle.message.specs.declared.Read.the-variants as read
-use Rattle.message.specs.Layout.{one, tuple, optionalTuple, text, letter, groupsEnd, readFields}
-use Rattle.message.specs.Kinds.{Kind, begin, commit, origin, relation, type, insert, update, delete, truncate, message, streamStart, streamStop, streamCommit, streamAbort, layout, id, identity, columns, new, keyOrOld}
+use Rattle.message.specs.Layout.{id, numberOf, one, tuple, optionalTuple, text, letter, groupsEnd, readFields}
+use Rattle.message.specs.Kinds.{Kind, begin, commit, origin, relation, type, insert, update, delete, truncate, message, streamStart, streamStop, streamCommit, streamAbort, layout, identity, columns, new, keyOrOld}
 use Rattle.message.specs.Messages.{messageOf, readMessage}
 use Rattle.message.proofs.Accepted.{reached, accepted}
-use Rattle.columns.proofs.Stays.{groups-stay}
+use Rattle.message.proofs.Local.{groups-local}
 use Rattle.session.specs.Events.{Event, Begin, Commit, Origin, Relation, Change, Truncate, Neutral, Logical, StreamStart, StreamStop, StreamCommit, StreamAbort, oidsAt, eventOf}
 use Rattle.session.proofs.Formed.{NonZero, id-then}
 
@@ -40,13 +40,13 @@ module _ (b : Bool) (xs : List ℕ) where
   unfolding groupsEnd
   oids-then zero c e q = tt
   oids-then (suc n) c e q =
-      let d = numberField 4 1 0xFFFF_FFFF 4 xs c .next in
-      let r = reached (groupsEnd (id ∷ []) xs n) (λ k o. groups-stay xs k o (id ∷ []) n) d q in
+      let d = numberOf id xs c .next in
+      let r = reached (groupsEnd (id ∷ []) xs n) (groups-local (id ∷ []) n .stays xs) d q in
       (id-then b xs [] c (r .0) (r .1) .0, oids-then n d e q)
 
   relations-then : (n : ℕ) (c : Cursor) (e : ℕ) → groupsEnd (id ∷ []) xs n c ≡ At e → AllNonZero (oidsAt n xs (At (positionOf c)))
   relations-then n c e q =
-      let r = reached (groupsEnd (id ∷ []) xs n) (λ k o. groups-stay xs k o (id ∷ []) n) c q in
+      let r = reached (groupsEnd (id ∷ []) xs n) (groups-local (id ∷ []) n .stays xs) c q in
       rw (r .1) (oids-then n (At (r .0)) e (rw (r .1) at q))
 
   kind-named : (k : Kind) (e : ℕ) → readFields b (layout k) xs (At 1) .next ≡ At e → Named (eventOf (messageOf k (readFields b (layout k) xs (At 1) .parts)) xs)

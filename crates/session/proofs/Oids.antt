@@ -6,7 +6,8 @@ use mathlib.Core.Path.{_≡_, refl, sym, _∙_}
 use native.Mathlib.Omega.{arith}
 use Rattle.wire.specs.declared.Cursor.{Cursor}
 use Rattle.wire.specs.declared.Field32.{Field32}
-use Rattle.wire.specs.Fields.{numberField, narrow32}
+use Rattle.wire.specs.Fields.{narrow32}
+use Rattle.message.specs.Layout.{id, numberOf}
 use Rattle.session.specs.Events.{oidsAt}
 use Rattle.session.specs.History.{Announced, unannounced, isAnnounced}
 use Rattle.session.specs.Rules.{allSeen, firstSeen}
@@ -21,7 +22,7 @@ module _ (see : ℕ → Announced) (xs : List ℕ) (c : Cursor) where
   seen-done n h inv = let z : n ≡ 0 = omega arith in rw z at inv
 
   -- one that was read, and what it sees
-  module _ (f : Field32) (e : f ≡ narrow32 (numberField 4 1 0xFFFF_FFFF 4 xs c)) (l : Announced) (q : l ≡ see (f .value)) where
+  module _ (f : Field32) (e : f ≡ narrow32 (numberOf id xs c)) (l : Announced) (q : l ≡ see (f .value)) where
     pub first-some : (n : ℕ) → (n ≡ 0 → ⊥) → l ≡ firstSeen see (oidsAt n xs c)
     first-some zero h = absurd (h refl)
     first-some (suc n) h = rw (q, e)

@@ -5,12 +5,11 @@ use mathlib.Core.Bool.{Bool}
 use lib.Dec.{eqb}
 use Rattle.wire.specs.declared.Cursor.{Cursor}
 use Rattle.wire.specs.declared.Cursor.the-variants.{At}
-use Rattle.wire.specs.Fields.{numberField}
 use Rattle.message.specs.declared.OldTuple.{OldTuple}
 use Rattle.message.specs.declared.OldTuple.the-variants as old
 use Rattle.message.specs.declared.Message.{Message}
 use Rattle.message.specs.declared.Message.the-variants as m
-use Rattle.message.specs.Layout.{mostColumns}
+use Rattle.message.specs.Layout.{id, numberOf, columnCount}
 
 -- a tuple of a change: its letter (`N` the new row, `K` the key, `O` the whole old row) and how many columns it has
 pub data Tuple : Type 0 where
@@ -46,7 +45,7 @@ pub data Event : Type 0 where
 
 -- a tuple starts with its column count
 abbrev pub tupleAt : ℕ → List ℕ → ℕ → Tuple
-tupleAt letter xs start = tuple letter (numberField 2 0 mostColumns 6 xs (At start) .value)
+tupleAt letter xs start = tuple letter (columnCount xs (At start) .value)
 
 -- an Update's old tuple, where it has one, before its other tuples
 abbrev pub oldBefore : OldTuple → List ℕ → List Tuple → List Tuple
@@ -57,7 +56,7 @@ oldBefore (old.Full start) xs ts = tupleAt 0x4F xs start ∷ ts
 -- n OIDs, one after the other
 abbrev pub oidsAt : ℕ → List ℕ → Cursor → List ℕ
 oidsAt zero xs c = []
-oidsAt (suc n) xs c = let f = numberField 4 1 0xFFFF_FFFF 4 xs c in f .value ∷ oidsAt n xs (f .next)
+oidsAt (suc n) xs c = let f = numberOf id xs c in f .value ∷ oidsAt n xs (f .next)
 
 abbrev pub eventOf : Message → List ℕ → Event
 eventOf (m.Begin r) xs = Begin (r .«final_lsn») (r .xid)

@@ -3,7 +3,7 @@ ghost use mathlib.Core.Path.{_≡_};
 ghost use mathlib.Core.List.{List, [], _∷_};
 ghost use Prim.Native.Nat.{ℕ, _<_, _%_};
 ghost use Rattle.wire.specs.declared.Cursor.the-variants.{At};
-ghost use Rattle.wire.specs.Fields.{numberField};
+ghost use Rattle.message.specs.Layout.{columnCount};
 ghost use Rattle.session.specs.Events.{Change, tuple, oldBefore, eventOf};
 ghost use Rattle.session.specs.Rules.{heard};
 ghost use Rattle.session.specs.Acts.{tuplesOf, eventIn, heardIn};
@@ -17,11 +17,9 @@ use message::OldTuple;
 use message::Relation;
 use message::Truncate;
 use message::Update;
+use message::fields;
 use wire::Cursor;
 use wire::Field16;
-use wire::Refusal;
-
-const MOST_COLUMNS: u16 = 1600;
 
 // Smaller numbers as words.
 pub fn wide8(x: u8) -> u64
@@ -57,15 +55,9 @@ pub fn narrow16(x: u64) -> u16
 
 // How many columns the tuple at `start` counts.
 pub fn count_at(bytes: &[u8], start: usize) -> u64
-    ensures { λ r. ⌜ r ≡ numberField 2 0 1600 6 (now (bytes .entry)) (At start) .value ⌝ }
+    ensures { λ r. ⌜ r ≡ columnCount (now (bytes .entry)) (At start) .value ⌝ }
 {
-    let Field16 { value, .. } = wire::number16(
-        bytes,
-        Cursor::At(start),
-        0,
-        MOST_COLUMNS,
-        Refusal::RANGE,
-    );
+    let Field16 { value, .. } = fields::column_count(bytes, Cursor::At(start));
     wide16(value)
 }
 

@@ -20,11 +20,10 @@ use crate::Tuples;
 use crate::rules;
 use catalog::Lookup;
 use catalog::announcements;
+use message::fields;
 use wire::Cursor;
 use wire::Field32;
 use wire::Refusal;
-
-const MAX32: u32 = 0xFFFF_FFFF;
 
 // The announcement that a change at a place sees.
 pub fn visible(
@@ -68,7 +67,7 @@ pub fn all_visible(
     let mut left = count;
     let mut at = Cursor::At(start);
     while 0 < left {
-        let Field32 { value, next } = wire::number32(bytes, at, 1, MAX32, Refusal::FIELD);
+        let Field32 { value, next } = fields::id(bytes, at);
         if !rules::is_found(visible(place, rows, keys, tags, identities, columns, value)) {
             return false;
         }
@@ -95,7 +94,7 @@ pub fn first_visible(
     if count == 0 {
         return Lookup::Missing;
     }
-    let Field32 { value, .. } = wire::number32(bytes, Cursor::At(start), 1, MAX32, Refusal::FIELD);
+    let Field32 { value, .. } = fields::id(bytes, Cursor::At(start));
     visible(place, rows, keys, tags, identities, columns, value)
 }
 

@@ -13,7 +13,7 @@ use Rattle.wire.specs.declared.Cursor.the-variants.{At, Refused}
 use Rattle.wire.specs.declared.FieldSpan.{FieldSpan}
 use Rattle.wire.specs.declared.Field8.{Field8}
 use Rattle.wire.specs.declared.Field64.{Field64}
-use Rattle.wire.specs.Numbers.{be}
+use Rattle.wire.specs.Numbers.{be, most32, most64}
 use Rattle.wire.specs.Fields.{numberField, noNumber, letterField, valueField}
 use Rattle.wire.proofs.Numbers.{word-there}
 use Rattle.wire.proofs.There.{no}
@@ -40,7 +40,7 @@ listed-one k.TimestampTz o = refl
 listed-one k.Raw o = absurd (miss (0 ∷ 1 ∷ 2 ∷ 3 ∷ 4 ∷ 5 ∷ 6 ∷ []) 7 tt o)
 
 -- the kinds of four and of eight bytes
-pub four-wide : (x : ValueKind) → OneOf (2 ∷ 4 ∷ []) (tagOf kind-type.the-type x) → (rowOf x .width ≡ 4) × (rowOf x .most ≡ 0xFFFFFFFF)
+pub four-wide : (x : ValueKind) → OneOf (2 ∷ 4 ∷ []) (tagOf kind-type.the-type x) → (rowOf x .width ≡ 4) × (rowOf x .most ≡ most32)
 four-wide k.Bool o = absurd (miss (2 ∷ 4 ∷ []) 0 tt o)
 four-wide k.Int2 o = absurd (miss (2 ∷ 4 ∷ []) 1 tt o)
 four-wide k.Int4 o = (refl, refl)
@@ -50,7 +50,7 @@ four-wide k.Float8 o = absurd (miss (2 ∷ 4 ∷ []) 5 tt o)
 four-wide k.TimestampTz o = absurd (miss (2 ∷ 4 ∷ []) 6 tt o)
 four-wide k.Raw o = absurd (miss (2 ∷ 4 ∷ []) 7 tt o)
 
-pub eight-wide : (x : ValueKind) → OneOf (3 ∷ 5 ∷ 6 ∷ []) (tagOf kind-type.the-type x) → (rowOf x .width ≡ 8) × (rowOf x .most ≡ 0xFFFFFFFFFFFFFFFF)
+pub eight-wide : (x : ValueKind) → OneOf (3 ∷ 5 ∷ 6 ∷ []) (tagOf kind-type.the-type x) → (rowOf x .width ≡ 8) × (rowOf x .most ≡ most64)
 eight-wide k.Bool o = absurd (miss (3 ∷ 5 ∷ 6 ∷ []) 0 tt o)
 eight-wide k.Int2 o = absurd (miss (3 ∷ 5 ∷ 6 ∷ []) 1 tt o)
 eight-wide k.Int4 o = absurd (miss (3 ∷ 5 ∷ 6 ∷ []) 2 tt o)

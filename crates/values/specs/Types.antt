@@ -6,7 +6,7 @@ use lib.Dec.{eqb, leb}
 use lib.Ieee.{Float, Format, binary32, binary64, ofBits, toBits, nanBits}
 use mir.Syntax.{w16, w32, w64}
 use mir.Val.{toZ, ofZ}
-use Rattle.wire.specs.Numbers.{be}
+use Rattle.wire.specs.Numbers.{be, most16, most32, most64}
 use Rattle.values.specs.declared.ValueKind.{ValueKind}
 use Rattle.values.specs.declared.ValueKind.the-variants as k
 use Rattle.values.specs.declared.TypeRow.{TypeRow}
@@ -24,12 +24,12 @@ row oid width most = record { oid = oid; width = width; most = most }
 
 abbrev pub rowOf : ValueKind → TypeRow
 rowOf k.Bool = row 16 1 1
-rowOf k.Int2 = row 21 2 0xFFFF
-rowOf k.Int4 = row 23 4 0xFFFFFFFF
-rowOf k.Int8 = row 20 8 0xFFFFFFFFFFFFFFFF
-rowOf k.Float4 = row 700 4 0xFFFFFFFF
-rowOf k.Float8 = row 701 8 0xFFFFFFFFFFFFFFFF
-rowOf k.TimestampTz = row 1184 8 0xFFFFFFFFFFFFFFFF
+rowOf k.Int2 = row 21 2 most16
+rowOf k.Int4 = row 23 4 most32
+rowOf k.Int8 = row 20 8 most64
+rowOf k.Float4 = row 700 4 most32
+rowOf k.Float8 = row 701 8 most64
+rowOf k.TimestampTz = row 1184 8 most64
 rowOf k.Raw = row 0 0 0
 
 abbrev pub listed : List ValueKind

@@ -4,12 +4,6 @@ ghost use Rattle.values.specs.Types.{rowOf, kindOfType, hasWidth};
 use crate::TypeRow;
 use crate::ValueKind;
 
-const MAX16: u64 = 0xFFFF;
-
-const MAX32: u64 = 0xFFFF_FFFF;
-
-const MAX64: u64 = 0xFFFF_FFFF_FFFF_FFFF;
-
 // How the values of a type are read.
 pub fn kind_of_type(type_oid: u32) -> ValueKind
     ensures { λ r. ⌜ r ≡ kindOfType «type_oid» ⌝ }
@@ -38,12 +32,12 @@ pub fn row_of(kind: ValueKind) -> TypeRow
 {
     match kind {
         ValueKind::Bool => row(16, 1, 1),
-        ValueKind::Int2 => row(21, 2, MAX16),
-        ValueKind::Int4 => row(23, 4, MAX32),
-        ValueKind::Int8 => row(20, 8, MAX64),
-        ValueKind::Float4 => row(700, 4, MAX32),
-        ValueKind::Float8 => row(701, 8, MAX64),
-        ValueKind::TimestampTz => row(1184, 8, MAX64),
+        ValueKind::Int2 => row(21, 2, u16::MAX as u64),
+        ValueKind::Int4 => row(23, 4, u32::MAX as u64),
+        ValueKind::Int8 => row(20, 8, u64::MAX),
+        ValueKind::Float4 => row(700, 4, u32::MAX as u64),
+        ValueKind::Float8 => row(701, 8, u64::MAX),
+        ValueKind::TimestampTz => row(1184, 8, u64::MAX),
         ValueKind::Raw => row(0, 0, 0),
     }
 }

@@ -21,12 +21,6 @@ use wire::FieldSpan;
 use wire::Refusal;
 use wire::Span;
 
-const MAX16: u16 = 0xFFFF;
-
-const MAX32: u32 = 0xFFFF_FFFF;
-
-const MAX64: u64 = 0xFFFF_FFFF_FFFF_FFFF;
-
 // The value of a pattern of 32 bits. Without the sign a NaN's pattern is above the infinity's.
 fn float4_of(n: u32) -> Value
     ensures { λ r. ⌜ r ≡ float4Of n ⌝ }
@@ -83,17 +77,17 @@ fn number_of(message: &[u8], kind: ValueKind, start: usize) -> Field64
             Field64 { value, next }
         }
         ValueKind::Int2 => {
-            let Field16 { value, next } = wire::number16(message, at, 0, MAX16, Refusal::VALUE);
+            let Field16 { value, next } = wire::number16(message, at, 0, u16::MAX, Refusal::VALUE);
             let value = value as u64;
             Field64 { value, next }
         }
         ValueKind::Int4 | ValueKind::Float4 => {
-            let Field32 { value, next } = wire::number32(message, at, 0, MAX32, Refusal::VALUE);
+            let Field32 { value, next } = wire::number32(message, at, 0, u32::MAX, Refusal::VALUE);
             let value = value as u64;
             Field64 { value, next }
         }
         ValueKind::Int8 | ValueKind::Float8 | ValueKind::TimestampTz => {
-            wire::number64(message, at, 0, MAX64, Refusal::VALUE)
+            wire::number64(message, at, 0, u64::MAX, Refusal::VALUE)
         }
         ValueKind::Raw => Field64 { value: 0, next: at },
     }

@@ -7,6 +7,16 @@ use lib.Dec.{leb}
 use Rattle.wire.specs.declared.Word.{Word}
 use Rattle.wire.specs.declared.Word.the-variants.{Value, Short}
 
+-- the largest number of 16, 32 and 64 bits
+abbrev pub most16 : ℕ
+most16 = 0xFFFF
+
+abbrev pub most32 : ℕ
+most32 = 0xFFFF_FFFF
+
+abbrev pub most64 : ℕ
+most64 = 0xFFFF_FFFF_FFFF_FFFF
+
 -- the number that k bytes from `at` on spell, the most significant first
 unfoldable pub be : ℕ → List ℕ → ℕ → ℕ
 be zero xs at = 0

@@ -12,8 +12,8 @@ lacking-requires c κs = tt
 enum-known-found : tie.Need-enum-known-found
 enum-known-found c = search needs
 
-number16-requires : tie.Need-number16-requires
-number16-requires c κs = tt
+column-count-requires : tie.Need-column-count-requires
+column-count-requires c κs = tt
 
 position-requires : tie.Need-position-requires
 position-requires c κs = tt
@@ -27,7 +27,7 @@ returns c = rw (c .lacking .ensures, c .before .enum-told .given .1)
 
 returns-2 : tie.Need-returns-2
 unfolding tuplePosition
-returns-2 c = rw (c .position .ensures, c .before .number16 .ensures, c .before .before .before .found .given .1)
+returns-2 c = rw (c .position .ensures, c .before .column-count .ensures, c .before .before .before .found .given .1)
 
 pub tuple-position-spec : {M : Type 1} → statement M
 tuple-position-spec =
@@ -36,7 +36,7 @@ tuple-position-spec =
     enum-told
     lacking-requires
     enum-known-found
-    number16-requires
+    column-count-requires
     position-requires
     cast-left
     returns

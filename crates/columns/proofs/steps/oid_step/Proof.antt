@@ -10,8 +10,8 @@ returns : tie.Need-returns
 unfolding oidStep
 returns c = rw (eq-eqb (c .before .before .args .position .left) 0 (c .if1 .taken))
 
-number32-requires : tie.Need-number32-requires
-number32-requires c κs = tt
+id-requires : tie.Need-id-requires
+id-requires c κs = tt
 
 enum-known-next : tie.Need-enum-known-next
 enum-known-next c = search needs
@@ -26,22 +26,22 @@ returns-2 : tie.Need-returns-2
 unfolding oidStep
 returns-2 c =
     let n = c .before .before .before in
-    let e = sym (ap (λ (f : Field32). f .next) (n .number32 .ensures)) ∙ c .before .next .given .1 in
+    let e = sym (ap (λ (f : Field32). f .next) (n .id .ensures)) ∙ c .before .next .given .1 in
     rw (ne-eqb (n .before .before .before .args .position .left) 0 (n .before .if1 .left), e)
 
 returns-3 : tie.Need-returns-3
 unfolding oidStep
 returns-3 c =
     let n = c .before .before .before in
-    let e = sym (ap (λ (f : Field32). f .next) (n .number32 .ensures)) ∙ c .before .next2 .given .1 in
-    rw (n .number32 .ensures, ne-eqb (n .before .before .before .args .position .left) 0 (n .before .if1 .left), e)
+    let e = sym (ap (λ (f : Field32). f .next) (n .id .ensures)) ∙ c .before .next2 .given .1 in
+    rw (n .id .ensures, ne-eqb (n .before .before .before .args .position .left) 0 (n .before .if1 .left), e)
 
 pub oid-step-spec : {M : Type 1} → statement M
 oid-step-spec =
     tie.close
     (tie.spec
     returns
-    number32-requires
+    id-requires
     enum-known-next
     enum-known-next-2
     sub-left

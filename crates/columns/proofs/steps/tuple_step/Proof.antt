@@ -1,14 +1,13 @@
 use mathlib.Core.Path.{ap, sym, _∙_}
 use borrow.Author.Tests.{eq-eqb, ne-eqb}
 use Rattle.columns.specs.declared.ColumnField.{ColumnField}
-use Rattle.columns.specs.Steps.{tupleStep}
-use Rattle.columns.proofs.Columns.{column-end}
+use Rattle.columns.specs.Steps.{columnField, tupleStep}
 use borrow.Author.Needs.{needs}
 use Rattle.columns.proofs.steps.tuple_step.Statement.{statement}
 use Rattle.columns.proofs.steps.tuple_step.Tie as tie
 
 returns : tie.Need-returns
-unfolding tupleStep
+unfolding columnField tupleStep
 returns c = rw (eq-eqb (c .before .before .args .position .left) 0 (c .if1 .taken))
 
 column-field-requires : tie.Need-column-field-requires
@@ -24,18 +23,18 @@ sub-left : tie.Need-sub-left
 sub-left c = search needs
 
 returns-2 : tie.Need-returns-2
-unfolding tupleStep
+unfolding columnField tupleStep
 returns-2 c =
     let n = c .before .before .before .before in
     let e = sym (ap (λ (f : ColumnField). f .next) (n .column-field .ensures)) ∙ c .before .next .given .1 in
-    rw (column-end, ne-eqb (n .before .before .before .args .position .left) 0 (n .before .if1 .left), e)
+    rw (ne-eqb (n .before .before .before .args .position .left) 0 (n .before .if1 .left), e)
 
 returns-3 : tie.Need-returns-3
-unfolding tupleStep
+unfolding columnField tupleStep
 returns-3 c =
     let n = c .before .before .before .before in
     let e = sym (ap (λ (f : ColumnField). f .next) (n .column-field .ensures)) ∙ c .before .next2 .given .1 in
-    rw (column-end, n .column-field .ensures, ne-eqb (n .before .before .before .args .position .left) 0 (n .before .if1 .left), e)
+    rw (n .column-field .ensures, ne-eqb (n .before .before .before .args .position .left) 0 (n .before .if1 .left), e)
 
 pub tuple-step-spec : {M : Type 1} → statement M
 tuple-step-spec =

@@ -6,8 +6,8 @@ use Rattle.reader.proofs.changes.read_insert.Tie as tie
 block-xid-requires : tie.Need-block-xid-requires
 block-xid-requires c κs = tt
 
-number32-requires : tie.Need-number32-requires
-number32-requires c κs = tt
+id-requires : tie.Need-id-requires
+id-requires c κs = tt
 
 slice-aggregate-letter : tie.Need-slice-aggregate-letter
 slice-aggregate-letter c = search needs
@@ -32,7 +32,7 @@ returns c =
       c .before .tuple-after .ensures,
       c .before .before .position .ensures,
       c .before .before .before .letter .ensures,
-      c .before .before .before .before .before .number32 .ensures,
+      c .before .before .before .before .before .id .ensures,
       c .before .before .before .before .before .before .block-xid .ensures,
     )
 
@@ -41,7 +41,7 @@ read-insert-spec =
     tie.close
     (tie.spec
     block-xid-requires
-    number32-requires
+    id-requires
     slice-aggregate-letter
     letter-requires
     position-requires

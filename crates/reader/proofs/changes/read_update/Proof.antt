@@ -7,8 +7,8 @@ use Rattle.reader.proofs.changes.read_update.Tie as tie
 block-xid-requires : tie.Need-block-xid-requires
 block-xid-requires c κs = tt
 
-number32-requires : tie.Need-number32-requires
-number32-requires c κs = tt
+id-requires : tie.Need-id-requires
+id-requires c κs = tt
 
 old-tuple-requires : tie.Need-old-tuple-requires
 old-tuple-requires c κs = tt
@@ -37,7 +37,7 @@ returns c =
       c .before .before .position .ensures,
       c .before .before .before .letter .ensures,
       c .before .before .before .before .before .old-tuple .ensures,
-      c .before .before .before .before .before .before .number32 .ensures,
+      c .before .before .before .before .before .before .id .ensures,
       c .before .before .before .before .before .before .before .block-xid .ensures,
     )
 
@@ -46,7 +46,7 @@ read-update-spec =
     tie.close
     (tie.spec
     block-xid-requires
-    number32-requires
+    id-requires
     old-tuple-requires
     slice-aggregate-letter
     letter-requires

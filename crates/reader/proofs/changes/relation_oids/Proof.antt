@@ -5,8 +5,7 @@ use native.Mathlib.Omega.{arith}
 use borrow.Author.Needs.{needs}
 use Rattle.wire.specs.declared.Field32.{Field32}
 use Rattle.wire.specs.Fields.{numberField}
-use Rattle.message.specs.Layout.{groupsEnd}
-use Rattle.message.specs.Kinds.{id}
+use Rattle.message.specs.Layout.{id, groupsEnd}
 use Rattle.reader.proofs.Groups.{turn, done, refused}
 use Rattle.reader.proofs.changes.relation_oids.Statement.{statement}
 use Rattle.reader.proofs.changes.relation_oids.Tie as tie
@@ -20,8 +19,8 @@ abbrev μ-loop : tie.MeasureT-loop
 loop-holds : tie.Need-loop-holds Inv-loop μ-loop
 loop-holds c = (omega arith, refl)
 
-number32-requires : tie.Need-number32-requires Inv-loop μ-loop
-number32-requires c κs = tt
+id-requires : tie.Need-id-requires Inv-loop μ-loop
+id-requires c κs = tt
 
 enum-told : tie.Need-enum-told Inv-loop μ-loop
 enum-told c = search needs
@@ -30,7 +29,7 @@ returns : tie.Need-returns Inv-loop μ-loop
 unfolding numberField
 returns c =
     let r = c .before .before in
-    refused (id ∷ []) _ _ _ (r .before .loop-test .taken) refl (ap (λ (f : Field32). f .next) (r .number32 .ensures)) (c .enum-told .given .1) (r .before .before .loop .inv .1)
+    refused (id ∷ []) _ _ _ (r .before .loop-test .taken) refl (ap (λ (f : Field32). f .next) (r .id .ensures)) (c .enum-told .given .1) (r .before .before .loop .inv .1)
 
 enum-told-2 : tie.Need-enum-told-2 Inv-loop μ-loop
 enum-told-2 c = search needs
@@ -44,7 +43,7 @@ loop-less c = omega arith
 loop-again : tie.Need-loop-again Inv-loop μ-loop
 loop-again c =
     let r = c .before .before in
-    (omega arith, turn (id ∷ []) _ _ _ (r .before .loop-test .taken) (ap (λ (f : Field32). f .next) (r .number32 .ensures)) (r .before .before .loop .inv .1))
+    (omega arith, turn (id ∷ []) _ _ _ (r .before .loop-test .taken) (ap (λ (f : Field32). f .next) (r .id .ensures)) (r .before .before .loop .inv .1))
 
 returns-2 : tie.Need-returns-2 Inv-loop μ-loop
 returns-2 c = done (id ∷ []) _ _ (c .loop-test .left) (c .before .loop .inv .1)
@@ -56,7 +55,7 @@ relation-oids-spec =
     Inv-loop
     μ-loop
     loop-holds
-    number32-requires
+    id-requires
     enum-told
     returns
     enum-told-2

@@ -6,8 +6,8 @@ use Rattle.reader.proofs.schema.read_relation.Tie as tie
 block-xid-requires : tie.Need-block-xid-requires
 block-xid-requires c κs = tt
 
-number32-requires : tie.Need-number32-requires
-number32-requires c κs = tt
+id-requires : tie.Need-id-requires
+id-requires c κs = tt
 
 text-requires : tie.Need-text-requires
 text-requires c κs = tt
@@ -21,8 +21,8 @@ slice-aggregate-letter c = search needs
 letter-requires : tie.Need-letter-requires
 letter-requires c κs = tt
 
-number16-requires : tie.Need-number16-requires
-number16-requires c κs = tt
+column-count-requires : tie.Need-column-count-requires
+column-count-requires c κs = tt
 
 position-requires : tie.Need-position-requires
 position-requires c κs = tt
@@ -40,11 +40,11 @@ returns c =
       c .settle .ensures,
       c .before .relation-columns .ensures,
       c .before .before .position .ensures,
-      c .before .before .before .number16 .ensures,
+      c .before .before .before .column-count .ensures,
       c .before .before .before .before .letter .ensures,
       c .before .before .before .before .before .before .before .text2 .ensures,
       c .before .before .before .before .before .before .before .before .before .text .ensures,
-      c .before .before .before .before .before .before .before .before .before .before .number32 .ensures,
+      c .before .before .before .before .before .before .before .before .before .before .id .ensures,
       c .before .before .before .before .before .before .before .before .before .before .before .block-xid .ensures,
     )
 
@@ -53,12 +53,12 @@ read-relation-spec =
     tie.close
     (tie.spec
     block-xid-requires
-    number32-requires
+    id-requires
     text-requires
     text-requires-2
     slice-aggregate-letter
     letter-requires
-    number16-requires
+    column-count-requires
     position-requires
     relation-columns-requires
     settle-requires

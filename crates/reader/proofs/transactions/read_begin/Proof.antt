@@ -10,8 +10,8 @@ number64-requires c κs = tt
 number64-requires-2 : tie.Need-number64-requires-2
 number64-requires-2 c κs = tt
 
-number32-requires : tie.Need-number32-requires
-number32-requires c κs = tt
+id-requires : tie.Need-id-requires
+id-requires c κs = tt
 
 signed64-requires : tie.Need-signed64-requires
 signed64-requires c κs = tt
@@ -26,7 +26,7 @@ returns c =
       c .settle .ensures,
       toZ-ofZ w64 (c .before .signed64 .result) (record { sfits = c .before .signed64 .ok }),
       c .before .signed64 .ensures,
-      c .before .before .number32 .ensures,
+      c .before .before .id .ensures,
       c .before .before .before .number642 .ensures,
       c .before .before .before .before .number64 .ensures,
     )
@@ -37,7 +37,7 @@ read-begin-spec =
     (tie.spec
     number64-requires
     number64-requires-2
-    number32-requires
+    id-requires
     signed64-requires
     settle-requires
     returns)

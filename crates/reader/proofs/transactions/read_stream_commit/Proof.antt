@@ -4,8 +4,8 @@ use Rattle.message.specs.Messages.{readKind}
 use Rattle.reader.proofs.transactions.read_stream_commit.Statement.{statement}
 use Rattle.reader.proofs.transactions.read_stream_commit.Tie as tie
 
-number32-requires : tie.Need-number32-requires
-number32-requires c κs = tt
+id-requires : tie.Need-id-requires
+id-requires c κs = tt
 
 number8-requires : tie.Need-number8-requires
 number8-requires c κs = tt
@@ -36,14 +36,14 @@ returns c =
       c .before .before .before .number642 .ensures,
       c .before .before .before .before .number64 .ensures,
       c .before .before .before .before .before .number8 .ensures,
-      c .before .before .before .before .before .before .number32 .ensures,
+      c .before .before .before .before .before .before .id .ensures,
     )
 
 pub read-stream-commit-spec : {M : Type 1} → statement M
 read-stream-commit-spec =
     tie.close
     (tie.spec
-    number32-requires
+    id-requires
     number8-requires
     number64-requires
     number64-requires-2

@@ -1,5 +1,5 @@
 use borrow.Author.Needs.{needs}
-use Rattle.reader.proofs.Columns.{old-none, old-key, old-full, key-or-old}
+use Rattle.reader.proofs.OldTuples.{old-none, old-key, old-full, key-or-old}
 use Rattle.reader.proofs.tuples.old_tuple.Statement.{statement}
 use Rattle.reader.proofs.tuples.old_tuple.Tie as tie
 

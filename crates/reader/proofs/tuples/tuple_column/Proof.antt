@@ -1,37 +1,27 @@
-use Rattle.reader.proofs.Columns.{column-text, column-binary, column-bare}
-use borrow.Author.Needs.{needs}
+use Rattle.message.specs.Layout.{columnEnd}
 use Rattle.reader.proofs.tuples.tuple_column.Statement.{statement}
 use Rattle.reader.proofs.tuples.tuple_column.Tie as tie
 
-slice-aggregate-letter : tie.Need-slice-aggregate-letter
-slice-aggregate-letter c = search needs
+column-letter-requires : tie.Need-column-letter-requires
+column-letter-requires c κs = tt
 
-letter-requires : tie.Need-letter-requires
-letter-requires c κs = search needs
+has-value-requires : tie.Need-has-value-requires
+has-value-requires c κs = tt
 
 value-requires : tie.Need-value-requires
-value-requires c κs = search needs
+value-requires c κs = tt
 
 returns : tie.Need-returns
-returns c = column-text _ _ (c .before .before .letter .ensures) (c .before .if1 .taken) (c .value .ensures)
-
-value-requires-2 : tie.Need-value-requires-2
-value-requires-2 c κs = search needs
+unfolding columnEnd
+returns c =
+    let k = c .before .before in
+    rw (← k .before .column-letter .ensures, ← k .has-value .ensures, c .before .if1 .taken, c .value .ensures)
 
 returns-2 : tie.Need-returns-2
-returns-2 c = column-binary _ _ (c .before .before .before .letter .ensures) (c .before .if2 .taken) (c .value2 .ensures)
-
-returns-3 : tie.Need-returns-3
-returns-3 c = column-bare _ _ (c .before .before .letter .ensures) (c .before .if1 .left) (c .if2 .left)
+unfolding columnEnd
+returns-2 c =
+    let k = c .before in
+    rw (← k .before .column-letter .ensures, ← k .has-value .ensures, c .if1 .left)
 
 pub tuple-column-spec : {M : Type 1} → statement M
-tuple-column-spec =
-    tie.close
-    (tie.spec
-    slice-aggregate-letter
-    letter-requires
-    value-requires
-    returns
-    value-requires-2
-    returns-2
-    returns-3)
+tuple-column-spec = tie.close (tie.spec column-letter-requires has-value-requires value-requires returns returns-2)

@@ -20,8 +20,8 @@ abbrev μ-loop : tie.MeasureT-loop
 loop-holds : tie.Need-loop-holds Inv-loop μ-loop
 loop-holds c = (omega arith, refl)
 
-number32-requires : tie.Need-number32-requires Inv-loop μ-loop
-number32-requires c κs = tt
+id-requires : tie.Need-id-requires Inv-loop μ-loop
+id-requires c κs = tt
 
 visible-requires : tie.Need-visible-requires Inv-loop μ-loop
 visible-requires c κs = tt
@@ -30,7 +30,7 @@ is-found-requires : tie.Need-is-found-requires Inv-loop μ-loop
 is-found-requires c κs = tt
 
 returns : tie.Need-returns Inv-loop μ-loop
-returns c = let a = c .before .before .before .before .before .before .before .args in seen-miss (visibleIn (a .place) (table (a .rows) (a .keys .now) (a .tags .now) (a .identities .now) (a .columns .now))) _ _ _ (c .before .before .before .number32 .ensures) _ (c .before .before .visible .ensures) _ (c .before .is-found .ensures) _ (c .before .before .before .before .loop-test .taken) (c .if1 .taken) (c .before .before .before .before .before .loop .inv .1)
+returns c = let a = c .before .before .before .before .before .before .before .args in seen-miss (visibleIn (a .place) (table (a .rows) (a .keys .now) (a .tags .now) (a .identities .now) (a .columns .now))) _ _ _ (c .before .before .before .id .ensures) _ (c .before .before .visible .ensures) _ (c .before .is-found .ensures) _ (c .before .before .before .before .loop-test .taken) (c .if1 .taken) (c .before .before .before .before .before .loop .inv .1)
 
 sub-left : tie.Need-sub-left Inv-loop μ-loop
 sub-left c = omega arith
@@ -39,7 +39,7 @@ loop-less : tie.Need-loop-less Inv-loop μ-loop
 loop-less c = omega arith
 
 loop-again : tie.Need-loop-again Inv-loop μ-loop
-loop-again c = let a = c .before .before .before .before .before .before .before .args in (omega arith, seen-turn (visibleIn (a .place) (table (a .rows) (a .keys .now) (a .tags .now) (a .identities .now) (a .columns .now))) _ _ _ (c .before .before .before .number32 .ensures) _ (c .before .before .visible .ensures) _ (c .before .is-found .ensures) _ (c .before .before .before .before .loop-test .taken) (c .if1 .left) (c .before .before .before .before .before .loop .inv .1))
+loop-again c = let a = c .before .before .before .before .before .before .before .args in (omega arith, seen-turn (visibleIn (a .place) (table (a .rows) (a .keys .now) (a .tags .now) (a .identities .now) (a .columns .now))) _ _ _ (c .before .before .before .id .ensures) _ (c .before .before .visible .ensures) _ (c .before .is-found .ensures) _ (c .before .before .before .before .loop-test .taken) (c .if1 .left) (c .before .before .before .before .before .loop .inv .1))
 
 returns-2 : tie.Need-returns-2 Inv-loop μ-loop
 returns-2 c = let a = c .before .before .before .args in seen-done (visibleIn (a .place) (table (a .rows) (a .keys .now) (a .tags .now) (a .identities .now) (a .columns .now))) _ _ _ (c .loop-test .left) (c .before .loop .inv .1)
@@ -51,7 +51,7 @@ all-visible-spec =
     Inv-loop
     μ-loop
     loop-holds
-    number32-requires
+    id-requires
     visible-requires
     is-found-requires
     returns

@@ -8,20 +8,20 @@ use Rattle.session.proofs.judging.first_visible.Tie as tie
 returns : tie.Need-returns
 returns c = let a = c .before .before .args in first-none (visibleIn (a .place) (table (a .rows) (a .keys .now) (a .tags .now) (a .identities .now) (a .columns .now))) _ _ _ (c .if1 .taken)
 
-number32-requires : tie.Need-number32-requires
-number32-requires c κs = tt
+id-requires : tie.Need-id-requires
+id-requires c κs = tt
 
 visible-requires : tie.Need-visible-requires
 visible-requires c κs = tt
 
 returns-2 : tie.Need-returns-2
-returns-2 c = let a = c .before .before .before .before .args in first-some (visibleIn (a .place) (table (a .rows) (a .keys .now) (a .tags .now) (a .identities .now) (a .columns .now))) _ _ _ (c .before .number32 .ensures) _ (c .visible .ensures) _ (c .before .before .if1 .left)
+returns-2 c = let a = c .before .before .before .before .args in first-some (visibleIn (a .place) (table (a .rows) (a .keys .now) (a .tags .now) (a .identities .now) (a .columns .now))) _ _ _ (c .before .id .ensures) _ (c .visible .ensures) _ (c .before .before .if1 .left)
 
 pub first-visible-spec : {M : Type 1} → statement M
 first-visible-spec =
     tie.close
     (tie.spec
     returns
-    number32-requires
+    id-requires
     visible-requires
     returns-2)

@@ -1,4 +1,4 @@
--- The cases of a tuple's column. Assumes nothing.
+-- The cases of an Update's old tuple. Assumes nothing.
 use Prim.Native.Nat.{ℕ}
 use mathlib.Core.List.{List}
 use mathlib.Core.Bool.{Bool, true, false, _||_}
@@ -8,27 +8,13 @@ use borrow.Author.Tests.{ne-eqb, eqb-true}
 use lib.Dec.{eqb}
 use Rattle.wire.specs.declared.Cursor.{Cursor}
 use Rattle.wire.specs.declared.Field8.{Field8}
-use Rattle.wire.specs.declared.FieldSpan.{FieldSpan}
-use Rattle.wire.specs.Fields.{letterField, valueField, positionOf, member}
+use Rattle.wire.specs.Fields.{letterField, positionOf, member}
 use Rattle.wire.proofs.Cases.{letter-in}
 use Rattle.message.specs.declared.OldTuple.the-variants.{Nothing, Key, Full}
 use Rattle.message.specs.Kinds.{keyOrOld}
 use Rattle.reader.specs.declared.OldField.{OldField}
 use Rattle.reader.specs.Old.{oldField}
-use Rattle.message.specs.Layout.{columnLetters, columnEnd, optional, tupleEnd}
-
-module _ (xs : List ℕ) (c : Cursor) {k : Field8} (e : k ≡ letterField columnLetters xs c) where
-  pub column-text : {p : FieldSpan} → k .value ≡ 0x74 → p ≡ valueField xs (k .next) → p .next ≡ columnEnd xs c
-  unfolding columnEnd
-  column-text v q = rw (← e, v, q)
-
-  pub column-binary : {p : FieldSpan} → k .value ≡ 0x62 → p ≡ valueField xs (k .next) → p .next ≡ columnEnd xs c
-  unfolding columnEnd
-  column-binary v q = rw (← e, v, q)
-
-  pub column-bare : (k .value ≡ 0x74 → ⊥) → (k .value ≡ 0x62 → ⊥) → k .next ≡ columnEnd xs c
-  unfolding columnEnd
-  column-bare v w = rw (← e, ne-eqb (k .value) 0x74 v, ne-eqb (k .value) 0x62 w)
+use Rattle.message.specs.Layout.{optional, tupleEnd}
 
 -- K or O, and not K
 not-key : (v : ℕ) → (v ≡ 0x4B → ⊥) → member keyOrOld v ≡ true → v ≡ 0x4F
