@@ -13,10 +13,11 @@ use Rattle.wire.specs.declared.Cursor.the-variants.{At, Refused}
 use Rattle.wire.specs.declared.Field64.{Field64}
 use Rattle.wire.specs.declared.Field8.{Field8}
 use Rattle.wire.specs.declared.FieldSpan.{FieldSpan}
+use Rattle.wire.specs.Numbers.{most32, most64}
 use Rattle.wire.specs.Fields.{numberField, letterField, textField, bytesField, valueField, positionOf}
 use Rattle.wire.proofs.Fields.{value-le}
 use Rattle.wire.proofs.Cases.{number-cases, letter-cases, text-cases, bytes-cases}
-use Rattle.message.specs.Layout.{Optional, optional, xidField, tupleEnd, readFields}
+use Rattle.message.specs.Layout.{id, numberOf, Optional, optional, xidField, tupleEnd, readFields}
 use Rattle.message.specs.Kinds.{Kind, begin, commit, origin, relation, type, insert, update, delete, truncate, message, streamStart, streamStop, streamCommit, streamAbort, layout, keyOrOld}
 use Rattle.message.specs.Messages.{largest, messageOf}
 use Rattle.message.proofs.Parts.{TimeFits, kind-back, parts-back}
@@ -57,8 +58,8 @@ module _ (b : Bool) (xs : List ℕ) (small : (i : ℕ) → getD xs i 0 < 256) (s
   unfolding xidField
   xid-fit c = go b
     where
-      go : (t : Bool) → Fit (4 ∷ []) (cond t (numberField 4 1 0xFFFFFFFF 4 xs c) (record { value = 0; next = c }) .value ∷ [])
-      go true = let v = value-le 4 1 0xFFFFFFFF 4 xs c in (omega arith, tt)
+      go : (t : Bool) → Fit (4 ∷ []) (cond t (numberOf id xs c) (record { value = 0; next = c }) .value ∷ [])
+      go true = let v = value-le 4 1 most32 4 xs c in (omega arith, tt)
       go false = (omega arith, tt)
 
   -- where the next field starts
@@ -102,8 +103,8 @@ module _ (b : Bool) (xs : List ℕ) (small : (i : ℕ) → getD xs i 0 < 256) (s
   parts-fit streamCommit = (number-fit _ _ _ _ _ (omega arith), (number-fit _ _ _ _ _ (omega arith), (number-fit _ _ _ _ _ (omega arith), (number-fit _ _ _ _ _ (omega arith), (number-fit _ _ _ _ _ (omega arith), tt)))))
   parts-fit streamAbort = (number-fit _ _ _ _ _ (omega arith), (number-fit _ _ _ _ _ (omega arith), tt))
 
-  time-fits : (c : Cursor) → SFits w64 (toZ w64 (numberField 8 0 0xFFFF_FFFF_FFFF_FFFF 4 xs c .value))
-  time-fits c = toZ-fits w64 (numberField 8 0 0xFFFF_FFFF_FFFF_FFFF 4 xs c .value) (record { fits = number-small 8 0 0xFFFF_FFFF_FFFF_FFFF 4 c (omega arith) })
+  time-fits : (c : Cursor) → SFits w64 (toZ w64 (numberField 8 0 most64 4 xs c .value))
+  time-fits c = toZ-fits w64 (numberField 8 0 most64 4 xs c .value) (record { fits = number-small 8 0 most64 4 c (omega arith) })
 
   times-fit : (k : Kind) → TimeFits (messageOf k (readFields b (layout k) xs (At 1) .parts))
   times-fit begin = time-fits _

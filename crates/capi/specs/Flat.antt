@@ -38,12 +38,12 @@ held w n = cond (ltb n (256 ^ w)) n 0
 
 -- how many bytes hold each number of a field; of a start or a length 8
 abbrev pub fieldWidths : Field → List ℕ
-fieldWidths (number w low high n) = w ∷ []
+fieldWidths (number w low high) = w ∷ []
 fieldWidths (constant k) = []
 fieldWidths (letter set) = 1 ∷ []
 fieldWidths text = 8 ∷ 8 ∷ []
 fieldWidths value = 8 ∷ 8 ∷ []
-fieldWidths column = 8 ∷ []
+fieldWidths column = 1 ∷ 8 ∷ 8 ∷ []
 
 abbrev pub groupWidths : List Field → List ℕ
 groupWidths [] = []

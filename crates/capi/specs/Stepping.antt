@@ -5,14 +5,13 @@ use mathlib.Core.Bool.{cond}
 use mathlib.Core.Option.{Option, none, some}
 use lib.Dec.{eqb}
 use lib.ListN.{getD}
-use Rattle.wire.specs.declared.Cursor.the-variants.{At}
 use Rattle.message.specs.declared.Read.{Read}
 use Rattle.columns.specs.declared.Position.{Position}
 use Rattle.columns.specs.declared.Started.{Started}
 use Rattle.columns.specs.declared.Started.the-variants as started
 use Rattle.columns.specs.declared.Which.the-variants.{Old, New}
 use Rattle.columns.specs.Starts.{absent}
-use Rattle.columns.specs.Steps.{Stepped, over, gives, refused, stepped, after, columnField}
+use Rattle.columns.specs.Steps.{Stepped, over, gives, refused, stepped, after}
 use Rattle.columns.specs.Visits.{Section, tuple, columns, oids, fieldsOf, startOf}
 use Rattle.capi.specs.Filled.{Filled, filled, padded}
 
@@ -44,21 +43,14 @@ abbrev pub standing : Option Section → List ℕ → Position → Stepped
 standing none xs p = refused 4 0
 standing (some s) xs p = stepped (fieldsOf s) xs p
 
--- the numbers of what was stepped past: of a tuple's column its letter, and its value's start and length; else those of its layout
-abbrev pub passed : Option Section → List ℕ → Position → List ℕ → List ℕ
-passed none xs p v = v
-passed (some (tuple w)) xs p v = let f = columnField xs (At (p .offset)) in f .letter ∷ f .value .start ∷ f .value .length ∷ []
-passed (some columns) xs p v = v
-passed (some oids) xs p v = v
-
 -- 0 and the numbers of what was stepped past; 255 where none are left; or a refusal and its offset; and zeros behind
-abbrev pub numbersOf : Option Section → List ℕ → Position → Stepped → Filled
-numbersOf s xs p over = filled 255 (padded 5 [])
-numbersOf s xs p (gives v e) = filled 0 (padded 5 (passed s xs p v))
-numbersOf s xs p (refused n o) = filled n (padded 5 (o ∷ []))
+abbrev pub numbersOf : Stepped → Filled
+numbersOf over = filled 255 (padded 5 [])
+numbersOf (gives v e) = filled 0 (padded 5 v)
+numbersOf (refused n o) = filled n (padded 5 (o ∷ []))
 
 unfoldable pub stepNumbers : ℕ → List ℕ → List ℕ → Filled
-stepNumbers n xs ps = let s = sectionOf n in let p = positionIn ps in numbersOf s xs p (standing s xs p)
+stepNumbers n xs ps = numbersOf (standing (sectionOf n) xs (positionIn ps))
 
 -- the position's numbers after a step: unless 0 is returned, as they were
 abbrev pub movedBy : Stepped → List ℕ → List ℕ

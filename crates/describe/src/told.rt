@@ -29,7 +29,6 @@ use message::Update;
 use message::fields;
 use wire::Cursor;
 use wire::Field16;
-use wire::Refusal;
 use wire::Span;
 
 // The kinds, by their numbers.

@@ -11,6 +11,7 @@ use mir.Val.{toZ, ofZ, SFits}
 use mir.ValLaws.{ofZ-toZ, toZ-ofZ}
 use Rattle.wire.specs.declared.Cursor.{Cursor}
 use Rattle.wire.specs.declared.Cursor.the-variants.{At}
+use Rattle.wire.specs.Numbers.{most64}
 use Rattle.wire.specs.Fields.{numberField, letterField, member, positionOf}
 use Rattle.wire.proofs.Fields.{value-le}
 use Rattle.wire.proofs.Cases.{letter-in}
@@ -42,8 +43,8 @@ kind-back streamCommit v = refl
 kind-back streamAbort v = refl
 
 -- the bits of a time that was read are its number
-time-back : (xs : List ℕ) (c : Cursor) → ofZ w64 (toZ w64 (numberField 8 0 0xFFFF_FFFF_FFFF_FFFF 4 xs c .value)) ≡ numberField 8 0 0xFFFF_FFFF_FFFF_FFFF 4 xs c .value
-time-back xs c = ofZ-toZ w64 _ (record { fits = let h = value-le 8 0 0xFFFF_FFFF_FFFF_FFFF 4 xs c in omega arith })
+time-back : (xs : List ℕ) (c : Cursor) → ofZ w64 (toZ w64 (numberField 8 0 most64 4 xs c .value)) ≡ numberField 8 0 most64 4 xs c .value
+time-back xs c = ofZ-toZ w64 _ (record { fits = let h = value-le 8 0 most64 4 xs c in omega arith })
 
 -- K, O or nothing
 letters-back : (v start : ℕ) → member keyOrOld v ≡ true → oldNumbers (oldTuple v start) ≡ v ∷ start ∷ []

@@ -11,12 +11,11 @@ use Rattle.wire.specs.declared.Cursor.the-variants.{At, Refused}
 use Rattle.wire.specs.declared.FieldSpan.{FieldSpan}
 use Rattle.wire.specs.Fields.{numberField, letterField, bytesField, valueField, member}
 use Rattle.wire.proofs.There.{no, letter-inv, letter-read}
-use Rattle.message.specs.Layout.{columnLetters}
+use Rattle.message.specs.Layout.{columnLetters, columnValue, columnEnd}
 use Rattle.message.proofs.Again.{only-letter}
 use Rattle.columns.specs.declared.Position.{Position}
 use Rattle.columns.specs.declared.Column.the-variants.{Value}
-use Rattle.columns.specs.Steps.{over, gives, stepped, stood, columnField, tupleStep}
-use Rattle.columns.proofs.Columns.{column-end}
+use Rattle.columns.specs.Steps.{over, gives, stepped, stood, tupleStep}
 use Rattle.values.specs.Steps.{binary}
 
 -- a `b` is a letter of a column
@@ -33,7 +32,7 @@ unfolding valueField numberField bytesField
 refused-value xs n o e q = no refl q
 
 pub as-tuple : (xs : List ℕ) (p : Position) (s n e : ℕ) → stepped binary xs p ≡ gives (s ∷ n ∷ []) e → tupleStep xs p ≡ record { column = Value 0x62 s n; next = record { offset = e; left = p .left - 1 } }
-unfolding tupleStep columnField
+unfolding tupleStep columnValue columnEnd
 as-tuple xs p s n e q = outer (eqb (p .left) 0) refl q
   where
     from : Cursor
@@ -50,7 +49,7 @@ as-tuple xs p s n e q = outer (eqb (p .left) 0) refl q
         let x : f .value .start ≡ s = cc in
         let y : f .value .length ≡ n = cc in
         let w : i ≡ e = cc in
-        rw (t, column-end, l, b, c, l, b, x, y, w)
+        rw (t, l, b, c, x, y, w)
 
     outer : (t : Bool) → eqb (p .left) 0 ≡ t → cond t over (stood (valueField xs from .value .start ∷ valueField xs from .value .length ∷ []) (valueField xs from .next)) ≡ gives (s ∷ n ∷ []) e → Goal
     outer true t q = let z : _≡_ {A = ℕ} 0 1 = cc in absurd (omega arith)

@@ -11,11 +11,17 @@ row-requires c κs = search needs
 enum-told-2 : tie.Need-enum-told-2
 enum-told-2 c = search needs
 
+cast-row : tie.Need-cast-row
+cast-row c = search needs
+
 row-requires-2 : tie.Need-row-requires-2
 row-requires-2 c κs = search needs
 
 enum-told-3 : tie.Need-enum-told-3
 enum-told-3 c = search needs
+
+cast-row-2 : tie.Need-cast-row-2
+cast-row-2 c = search needs
 
 row-requires-3 : tie.Need-row-requires-3
 row-requires-3 c κs = search needs
@@ -28,6 +34,9 @@ row-requires-4 c κs = search needs
 
 enum-told-5 : tie.Need-enum-told-5
 enum-told-5 c = search needs
+
+cast-row-3 : tie.Need-cast-row-3
+cast-row-3 c = search needs
 
 row-requires-5 : tie.Need-row-requires-5
 row-requires-5 c κs = search needs
@@ -81,12 +90,15 @@ row-of-spec =
     enum-told
     row-requires
     enum-told-2
+    cast-row
     row-requires-2
     enum-told-3
+    cast-row-2
     row-requires-3
     enum-told-4
     row-requires-4
     enum-told-5
+    cast-row-3
     row-requires-5
     enum-told-6
     row-requires-6
