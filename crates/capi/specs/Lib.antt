@@ -2,4 +2,3 @@ pub mod Filled
 pub mod Flat
 pub mod Stepping
 pub mod Sessions
-pub mod Barred

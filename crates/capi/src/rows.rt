@@ -3,11 +3,10 @@ ghost use Prim.Native.Nat.{ℕ};
 ghost use mathlib.Core.Path.{_≡_};
 ghost use mathlib.Core.Option.{some};
 ghost use mathlib.Core.List.{List};
-ghost use Rattle.message.specs.Kinds.{kindNumbered, begin, commit, origin, relation, type, insert, update, delete, truncate, message, streamStart, streamStop, streamCommit, streamAbort};
+ghost use Rattle.message.specs.Kinds.{begin, commit, origin, relation, type, insert, update, delete, truncate, message, streamStart, streamStop, streamCommit, streamAbort};
 ghost use Rattle.message.specs.Messages.{oldTuple};
 ghost use Rattle.writer.specs.Answer.{Settles, refusal};
 ghost use Rattle.capi.specs.Flat.{held, messageIn, same, whole, unflat, writeFound};
-ghost use Rattle.capi.specs.Barred.{barred};
 use crate::flat;
 use message::Begin;
 use message::Commit;
@@ -93,19 +92,6 @@ fn same_row(a: &[u64; 16], b: &[u64; 16]) -> bool
     same
 }
 
-// Why a version bars a kind from being written, 0 where it does not.
-fn barred(version: Version, in_block: bool, kind: u8) -> u8
-    ensures { λ r. ⌜ r ≡ barred version «in_block» (kindNumbered kind) ⌝ }
-{
-    if !version.allows(in_block) {
-        return Refusal::VERSION;
-    }
-    if !version.has(kind) {
-        return Refusal::KIND;
-    }
-    0
-}
-
 fn refused(number: u8) -> Written
     ensures { λ r. ⌜ r ≡ refusal number 0 ⌝ }
 {
@@ -124,14 +110,11 @@ fn write_begin(version: Version, in_block: bool, row: &[u64; 16], out: &mut [u8]
     };
     let mut again = [0; 16];
     flat::flatten_begin(&mut again, m);
-    if !same_row(&again, row) {
-        return refused(Refusal::FIELD);
+    if same_row(&again, row) {
+        writer::write_begin(version, in_block, m, out)
+    } else {
+        refused(Refusal::FIELD)
     }
-    let bar = barred(version, in_block, kind::BEGIN);
-    if bar != 0 {
-        return refused(bar);
-    }
-    writer::write_begin(out, m)
 }
 
 fn write_commit(version: Version, in_block: bool, row: &[u64; 16], out: &mut [u8]) -> Written
@@ -145,14 +128,11 @@ fn write_commit(version: Version, in_block: bool, row: &[u64; 16], out: &mut [u8
     };
     let mut again = [0; 16];
     flat::flatten_commit(&mut again, m);
-    if !same_row(&again, row) {
-        return refused(Refusal::FIELD);
+    if same_row(&again, row) {
+        writer::write_commit(version, in_block, m, out)
+    } else {
+        refused(Refusal::FIELD)
     }
-    let bar = barred(version, in_block, kind::COMMIT);
-    if bar != 0 {
-        return refused(bar);
-    }
-    writer::write_commit(out, m)
 }
 
 fn write_origin(
@@ -170,14 +150,11 @@ fn write_origin(
     };
     let mut again = [0; 16];
     flat::flatten_origin(&mut again, m);
-    if !same_row(&again, row) {
-        return refused(Refusal::FIELD);
+    if same_row(&again, row) {
+        writer::write_origin(version, in_block, m, source, out)
+    } else {
+        refused(Refusal::FIELD)
     }
-    let bar = barred(version, in_block, kind::ORIGIN);
-    if bar != 0 {
-        return refused(bar);
-    }
-    writer::write_origin(out, m, source)
 }
 
 fn write_relation(
@@ -200,14 +177,11 @@ fn write_relation(
     };
     let mut again = [0; 16];
     flat::flatten_relation(&mut again, m);
-    if !same_row(&again, row) {
-        return refused(Refusal::FIELD);
+    if same_row(&again, row) {
+        writer::write_relation(version, in_block, m, source, out)
+    } else {
+        refused(Refusal::FIELD)
     }
-    let bar = barred(version, in_block, kind::RELATION);
-    if bar != 0 {
-        return refused(bar);
-    }
-    writer::write_relation(out, m, source, in_block)
 }
 
 fn write_type(
@@ -227,14 +201,11 @@ fn write_type(
     };
     let mut again = [0; 16];
     flat::flatten_type(&mut again, m);
-    if !same_row(&again, row) {
-        return refused(Refusal::FIELD);
+    if same_row(&again, row) {
+        writer::write_type(version, in_block, m, source, out)
+    } else {
+        refused(Refusal::FIELD)
     }
-    let bar = barred(version, in_block, kind::TYPE);
-    if bar != 0 {
-        return refused(bar);
-    }
-    writer::write_type(out, m, source, in_block)
 }
 
 fn write_insert(
@@ -253,14 +224,11 @@ fn write_insert(
     };
     let mut again = [0; 16];
     flat::flatten_insert(&mut again, m);
-    if !same_row(&again, row) {
-        return refused(Refusal::FIELD);
+    if same_row(&again, row) {
+        writer::write_insert(version, in_block, m, source, out)
+    } else {
+        refused(Refusal::FIELD)
     }
-    let bar = barred(version, in_block, kind::INSERT);
-    if bar != 0 {
-        return refused(bar);
-    }
-    writer::write_insert(out, m, source, in_block)
 }
 
 fn write_update(
@@ -280,14 +248,11 @@ fn write_update(
     };
     let mut again = [0; 16];
     flat::flatten_update(&mut again, m);
-    if !same_row(&again, row) {
-        return refused(Refusal::FIELD);
+    if same_row(&again, row) {
+        writer::write_update(version, in_block, m, source, out)
+    } else {
+        refused(Refusal::FIELD)
     }
-    let bar = barred(version, in_block, kind::UPDATE);
-    if bar != 0 {
-        return refused(bar);
-    }
-    writer::write_update(out, m, source, in_block)
 }
 
 fn write_delete(
@@ -307,14 +272,11 @@ fn write_delete(
     };
     let mut again = [0; 16];
     flat::flatten_delete(&mut again, m);
-    if !same_row(&again, row) {
-        return refused(Refusal::FIELD);
+    if same_row(&again, row) {
+        writer::write_delete(version, in_block, m, source, out)
+    } else {
+        refused(Refusal::FIELD)
     }
-    let bar = barred(version, in_block, kind::DELETE);
-    if bar != 0 {
-        return refused(bar);
-    }
-    writer::write_delete(out, m, source, in_block)
 }
 
 fn write_truncate(
@@ -334,14 +296,11 @@ fn write_truncate(
     };
     let mut again = [0; 16];
     flat::flatten_truncate(&mut again, m);
-    if !same_row(&again, row) {
-        return refused(Refusal::FIELD);
+    if same_row(&again, row) {
+        writer::write_truncate(version, in_block, m, source, out)
+    } else {
+        refused(Refusal::FIELD)
     }
-    let bar = barred(version, in_block, kind::TRUNCATE);
-    if bar != 0 {
-        return refused(bar);
-    }
-    writer::write_truncate(out, m, source, in_block)
 }
 
 fn write_logical_message(
@@ -362,14 +321,11 @@ fn write_logical_message(
     };
     let mut again = [0; 16];
     flat::flatten_logical_message(&mut again, m);
-    if !same_row(&again, row) {
-        return refused(Refusal::FIELD);
+    if same_row(&again, row) {
+        writer::write_logical_message(version, in_block, m, source, out)
+    } else {
+        refused(Refusal::FIELD)
     }
-    let bar = barred(version, in_block, kind::MESSAGE);
-    if bar != 0 {
-        return refused(bar);
-    }
-    writer::write_logical_message(out, m, source, in_block)
 }
 
 fn write_stream_start(version: Version, in_block: bool, row: &[u64; 16], out: &mut [u8]) -> Written
@@ -379,14 +335,11 @@ fn write_stream_start(version: Version, in_block: bool, row: &[u64; 16], out: &m
     let first = byte(row[2]);
     let mut again = [0; 16];
     flat::flatten_stream_start(&mut again, xid, first);
-    if !same_row(&again, row) {
-        return refused(Refusal::FIELD);
+    if same_row(&again, row) {
+        writer::write_stream_start(version, in_block, xid, first, out)
+    } else {
+        refused(Refusal::FIELD)
     }
-    let bar = barred(version, in_block, kind::STREAM_START);
-    if bar != 0 {
-        return refused(bar);
-    }
-    writer::write_stream_start(out, xid, first)
 }
 
 fn write_stream_stop(version: Version, in_block: bool, row: &[u64; 16], out: &mut [u8]) -> Written
@@ -394,14 +347,11 @@ fn write_stream_stop(version: Version, in_block: bool, row: &[u64; 16], out: &mu
 {
     let mut again = [0; 16];
     flat::flatten_stream_stop(&mut again);
-    if !same_row(&again, row) {
-        return refused(Refusal::FIELD);
+    if same_row(&again, row) {
+        writer::write_stream_stop(version, in_block, out)
+    } else {
+        refused(Refusal::FIELD)
     }
-    let bar = barred(version, in_block, kind::STREAM_STOP);
-    if bar != 0 {
-        return refused(bar);
-    }
-    writer::write_stream_stop(out)
 }
 
 fn write_stream_commit(version: Version, in_block: bool, row: &[u64; 16], out: &mut [u8]) -> Written
@@ -416,14 +366,11 @@ fn write_stream_commit(version: Version, in_block: bool, row: &[u64; 16], out: &
     };
     let mut again = [0; 16];
     flat::flatten_stream_commit(&mut again, m);
-    if !same_row(&again, row) {
-        return refused(Refusal::FIELD);
+    if same_row(&again, row) {
+        writer::write_stream_commit(version, in_block, m, out)
+    } else {
+        refused(Refusal::FIELD)
     }
-    let bar = barred(version, in_block, kind::STREAM_COMMIT);
-    if bar != 0 {
-        return refused(bar);
-    }
-    writer::write_stream_commit(out, m)
 }
 
 fn write_stream_abort(version: Version, in_block: bool, row: &[u64; 16], out: &mut [u8]) -> Written
@@ -433,14 +380,11 @@ fn write_stream_abort(version: Version, in_block: bool, row: &[u64; 16], out: &m
     let sub_xid = word(row[2]);
     let mut again = [0; 16];
     flat::flatten_stream_abort(&mut again, xid, sub_xid);
-    if !same_row(&again, row) {
-        return refused(Refusal::FIELD);
+    if same_row(&again, row) {
+        writer::write_stream_abort(version, in_block, xid, sub_xid, out)
+    } else {
+        refused(Refusal::FIELD)
     }
-    let bar = barred(version, in_block, kind::STREAM_ABORT);
-    if bar != 0 {
-        return refused(bar);
-    }
-    writer::write_stream_abort(out, xid, sub_xid)
 }
 
 // Writes the message of a row.

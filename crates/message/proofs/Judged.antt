@@ -1,7 +1,8 @@
 -- Pieces that were judged good: each has the length that its judgement says. Assumes nothing.
 use Prim.Native.Nat.{ℕ, zero, suc, _+_, _-_, _/_, _%_, _≤_}
 use mathlib.Core.List.{List, [], _∷_, _++_, append-assoc}
-use mathlib.Core.Bool.{Bool, true, false, cond}
+use mathlib.Core.Bool.{Bool, true, false, not, cond}
+use mathlib.Core.Option.{Option, some}
 use mathlib.Core.Path.{_≡_, refl, _∙_, ap}
 use native.Mathlib.Omega.{arith}
 use borrow.Author.Tests.{leb-true}
@@ -13,14 +14,16 @@ use Rattle.wire.specs.declared.Cursor.the-variants.{At, Refused}
 use Rattle.wire.specs.Numbers.{most32}
 use Rattle.wire.specs.Fields.{inRange, member}
 use Rattle.wire.proofs.There.{no}
+use Rattle.message.specs.declared.Version.{Version}
 use Rattle.message.specs.declared.Message.{Message}
 use Rattle.message.specs.Layout.{Field, Part, number, constant, letter, text, value, column, one, blockXid, groups, tuple, optionalTuple, hasValue, columnLetters, groupsEnd, tupleEnd}
-use Rattle.message.specs.Kinds.{letterOf, layout}
+use Rattle.message.specs.Kinds.{layout, Kind}
 use Rattle.message.specs.Messages.{largest}
 use Rattle.message.specs.Encode.{digits, cut, fromTo, kindOfMessage, partsOf}
 use Rattle.message.specs.Write.{arity, arities}
-use Rattle.message.specs.Pieces.{Piece, placed, step, steps, bytesOf, tested, numberPiece, letterPiece, bytePiece, lengthPiece, textPiece, textJudgement, contentPiece, sectionPiece, valuePieces, xidPiece, tuplePiece, fieldPieces, groupPieces, partPieces, layoutPieces, messagePieces}
+use Rattle.message.specs.Pieces.{Piece, placed, step, steps, bytesOf, tested, numberPiece, letterPiece, bytePiece, lengthPiece, textPiece, textJudgement, contentPiece, sectionPiece, valuePieces, xidPiece, tuplePiece, fieldPieces, groupPieces, partPieces, layoutPieces, messagePieces, opened, messageEnd}
 use Rattle.message.proofs.Local.{Local, through, groups-local, tuple-local}
+use Rattle.message.specs.Versions.{versionAllows, versionHas}
 
 -- THE JUDGEMENTS
 
@@ -143,9 +146,6 @@ layout-sound : (b : Bool) (ps : List Part) (src : List ℕ) (vs : List (List ℕ
 layout-sound b [] src vs = tt
 layout-sound b (p ∷ ps) src vs = sound-append (partPieces b p src (getD vs 0 [])) _ (part-sound b p src (getD vs 0 [])) (layout-sound b ps src (drop 1 vs))
 
-message-sound : (b : Bool) (m : Message) (src : List ℕ) → AllSound (messagePieces b m src)
-message-sound b m src = (byte-sound (letterOf (kindOfMessage m)), layout-sound b (layout (kindOfMessage m)) src (partsOf m))
-
 -- WHERE JUDGING ENDS
 
 pub steps-stay : (ps : List Piece) (n o : ℕ) → steps ps (Refused n o) ≡ Refused n o
@@ -170,11 +170,32 @@ steps-end (p ∷ ps) a e s h q =
     let t : length (p .bytes ++ bytesOf ps) ≡ length (p .bytes) + length (bytesOf ps) = length-append (p .bytes) (bytesOf ps) in
     (omega (arith, r .0, k .3), r .1)
 
--- a message that is judged good ends at its length
-pub message-end : (b : Bool) (m : Message) (src : List ℕ) (e : ℕ) → steps (messagePieces b m src) (At 0) ≡ At e → (e ≡ length (bytesOf (messagePieces b m src))) × (e ≤ largest)
-message-end b m src e q =
-    let s = steps-end (messagePieces b m src) 0 e (message-sound b m src) (omega arith) q in
-    (s .0 ∙ omega arith, s .1)
+opened-good : (v : Version) (b : Bool) (k : Option Kind) (n : ℕ) → opened v b k ≡ At n → (not (versionAllows v b) ≡ false) × (not (versionHas v k) ≡ false) × (n ≡ 1)
+unfolding opened
+opened-good v b k n q = go (not (versionAllows v b)) (not (versionHas v k)) q
+  where
+    go : (s t : Bool) → cond s (Refused 1 0) (cond t (Refused 3 0) (At 1)) ≡ At n → (s ≡ false) × (t ≡ false) × (n ≡ 1)
+    go true t q = no refl q
+    go false true q = no refl q
+    go false false q = (refl, refl, (cc))
+
+-- a message that is judged good
+module _ (v : Version) (b : Bool) (m : Message) (src : List ℕ) (e : ℕ) (q : messageEnd v b m src ≡ At e) where
+  abbrev fields : List Piece
+  fields = layoutPieces b (layout (kindOfMessage m)) src (partsOf m)
+
+  -- its version and kind are, and its fields
+  pub message-good : (not (versionAllows v b) ≡ false) × (not (versionHas v (some (kindOfMessage m))) ≡ false) × (steps fields (At 1) ≡ At e)
+  message-good =
+      let c = through (steps fields) (steps-stay fields) (opened v b (some (kindOfMessage m))) e q in
+      let o = opened-good v b (some (kindOfMessage m)) (c .0) (c .1) in
+      (o .0, o .1, rw (o .2) at (c .2))
+
+  -- it ends at its length
+  pub message-end : (e ≡ length (bytesOf (messagePieces b m src))) × (e ≤ largest)
+  message-end =
+      let s = steps-end fields 1 e (layout-sound b (layout (kindOfMessage m)) src (partsOf m)) (omega arith) (message-good .2) in
+      (s .0 ∙ omega arith, s .1)
 
 -- GOOD PIECES
 

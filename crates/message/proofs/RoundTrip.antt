@@ -1,7 +1,7 @@
 -- Both round trips of a message, from those of its layout. Assumes nothing.
 use Prim.Native.Nat.{ℕ, _+_, _-_, _<_, _≤_}
 use mathlib.Core.List.{List, [], _∷_, append-nil}
-use mathlib.Core.Bool.{Bool, true, false, cond, not}
+use mathlib.Core.Bool.{Bool, false, not}
 use mathlib.Core.Option.{some}
 use mathlib.Core.Path.{_≡_, refl, sym, _∙_, ap, subst}
 use native.Mathlib.Omega.{arith}
@@ -19,13 +19,13 @@ use Rattle.message.specs.Kinds.{Kind, begin, commit, origin, relation, t
 use Rattle.message.specs.Versions.{versionAllows, versionHas}
 use Rattle.message.specs.Messages.{largest, messageOf, readKind, readMessage}
 use Rattle.message.specs.Encode.{kindOfMessage, partsOf}
-use Rattle.message.specs.Write.{Writing, bytes, refused, writeMessage}
-use Rattle.message.specs.Pieces.{placed, steps, bytesOf, layoutPieces, messagePieces, outcome, fieldsWritten, writeShort}
+use Rattle.message.specs.Write.{bytes, writeMessage}
+use Rattle.message.specs.Pieces.{bytesOf, layoutPieces, messagePieces, outcome, opened, messageEnd, writeShort}
 use Rattle.message.specs.Same.{SameMessage}
 use Rattle.message.proofs.Letters.{of-letter, letter-of}
 use Rattle.message.proofs.Accepted.{accepted}
 use Rattle.message.proofs.Parts.{kind-back, parts-back}
-use Rattle.message.proofs.Judged.{AllGood, steps-good, message-end}
+use Rattle.message.proofs.Judged.{AllGood, steps-good, message-good, message-end}
 use Rattle.message.proofs.Short.{short}
 use Rattle.message.proofs.Again.{Again, layout-again}
 use Rattle.message.proofs.Says.{says}
@@ -34,19 +34,19 @@ use Rattle.message.proofs.Back.{Fine, layout-reads}
 -- WRITE AFTER READ
 
 -- the letter and the fields that were read are written as they stand
-module _ (b : Bool) (xs : List ℕ) (small : (i : ℕ) → getD xs i 0 < 256) (there : 1 ≤ length xs) (limit : length xs ≤ largest) where
+module _ (v : Version) (b : Bool) (xs : List ℕ) (small : (i : ℕ) → getD xs i 0 < 256) (there : 1 ≤ length xs) (limit : length xs ≤ largest) where
   spelled :
-      (m : Message) (k : Kind) (v : List (List ℕ)) → kindOfMessage m ≡ k → partsOf m ≡ v → getD xs 0 0 ≡ letterOf k
-      → Again xs small limit (layoutPieces b (layout k) xs v) 1 (length xs) → fieldsWritten b m xs ≡ bytes xs
-  unfolding fieldsWritten placed
-  spelled m k v p q l g =
+      (m : Message) (k : Kind) (vs : List (List ℕ)) → kindOfMessage m ≡ k → partsOf m ≡ vs → getD xs 0 0 ≡ letterOf k → opened v b (some k) ≡ At 1
+      → Again xs small limit (layoutPieces b (layout k) xs vs) 1 (length xs) → writeShort v b m xs ≡ bytes xs
+  unfolding writeShort
+  spelled m k vs p q l o g =
       let n : length (drop 1 xs) ≤ length xs - 1 = simp length-drop (omega arith) in
-      rw (p, q, g .accepted, g .spells, take-all (length xs - 1) (drop 1 xs) n, ← l) (ap bytes (sym (drop-cons xs 0 0 there)))
+      rw (p, q, o, g .accepted, g .spells, take-all (length xs - 1) (drop 1 xs) n, ← l) (ap bytes (sym (drop-cons xs 0 0 there)))
 
 pub write-after-read :
     (v : Version) (b : Bool) (xs : List ℕ) → ((i : ℕ) → getD xs i 0 < 256) → (m : Message)
     → readMessage v b xs ≡ answer.Message m → writeMessage v b m xs ≡ bytes xs
-unfolding writeShort
+unfolding opened
 write-after-read v b xs small m q =
     let a = accepted v b xs m q in
     let k = a .kind in
@@ -54,9 +54,9 @@ write-after-read v b xs small m q =
     let there : 1 ≤ length xs = omega (arith, a .there) in
     let p : kindOfMessage m ≡ k = ap kindOfMessage (a .message) ∙ kind-back k (r .parts) in
     short v b m xs
-    ∙ rw (a .allowed, p, a .has)
-    (spelled b xs small there (a .short) m k (r .parts) p (ap partsOf (a .message) ∙ parts-back k b xs) (letter-of (getD xs 0 0) k (a .letter))
-    (layout-again xs small (a .short) b (layout k) 1 (length xs) there (a .ends)))
+    ∙ spelled v b xs small there (a .short) m k (r .parts) p (ap partsOf (a .message) ∙ parts-back k b xs) (letter-of (getD xs 0 0) k (a .letter))
+    (rw (a .allowed, a .has))
+    (layout-again xs small (a .short) b (layout k) 1 (length xs) there (a .ends))
 
 -- READ AFTER WRITE
 
@@ -76,10 +76,6 @@ fine streamStart = (refl, (refl, tt))
 fine streamStop = tt
 fine streamCommit = (refl, (refl, (refl, (refl, (refl, tt)))))
 fine streamAbort = (refl, (refl, tt))
-
-write-passed : (t : Bool) (n o : ℕ) (w : Writing) (ys : List ℕ) → cond t (refused n o) w ≡ bytes ys → (t ≡ false) × (w ≡ bytes ys)
-write-passed true n o w ys q = let z : _≡_ {A = ℕ} 0 1 = cc in absurd (omega arith)
-write-passed false n o w ys q = (refl, q)
 
 came-out : (c : Cursor) (bs ys : List ℕ) → outcome c bs ≡ bytes ys → (e : ℕ) × (c ≡ At e) × (bs ≡ ys)
 came-out (At e) bs ys q = (e, refl, (cc))
@@ -120,15 +116,14 @@ by-kind v b xs k m h l n e g q = rw (h, le-ltb largest (length xs) l, ne-eqb (le
 pub read-after-write :
     (v : Version) (b : Bool) (m : Message) (src ys : List ℕ) → writeMessage v b m src ≡ bytes ys
     → (m′ : Message) × (readMessage v b ys ≡ answer.Message m′) × SameMessage m src m′ ys
-unfolding writeShort fieldsWritten
+unfolding writeShort
 read-after-write v b m src ys q =
     let k = kindOfMessage m in
-    let p₁ = write-passed (not (versionAllows v b)) 1 0 _ ys (sym (short v b m src) ∙ q) in
-    let p₂ = write-passed (not (versionHas v (some k))) 3 0 _ ys (p₁ .1) in
-    let p₃ = came-out (steps (messagePieces b m src) (At 0)) (bytesOf (messagePieces b m src)) ys (p₂ .1) in
-    let good = steps-good (messagePieces b m src) 0 (p₃ .0) (p₃ .1) in
-    let end = message-end b m src (p₃ .0) (p₃ .1) in
-    let r = kind-read b m src (good .1) in
+    let p = came-out (messageEnd v b m src) (bytesOf (messagePieces b m src)) ys (sym (short v b m src) ∙ q) in
+    let g = message-good v b m src (p .0) (p .1) in
+    let end = message-end v b m src (p .0) (p .1) in
+    let good = steps-good (layoutPieces b (layout k) src (partsOf m)) 1 (p .0) (g .2) in
+    let r = kind-read b m src good in
     let l : length (bytesOf (messagePieces b m src)) ≤ largest = omega (arith, end .0, end .1) in
-    subst (λ (ys : List ℕ). (m′ : Message) × (readMessage v b ys ≡ answer.Message m′) × SameMessage m src m′ ys) (p₃ .2)
-    (messageOf k (parts b m src (good .1)), by-kind v b (bytesOf (messagePieces b m src)) k _ (p₁ .0) l (λ e. omega arith) (of-letter k) (p₂ .0) (r .0), r .1)
+    subst (λ (ys : List ℕ). (m′ : Message) × (readMessage v b ys ≡ answer.Message m′) × SameMessage m src m′ ys) (p .2)
+    (messageOf k (parts b m src good), by-kind v b (bytesOf (messagePieces b m src)) k _ (g .0) l (λ e. omega arith) (of-letter k) (g .1) (r .0), r .1)

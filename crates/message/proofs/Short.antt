@@ -24,7 +24,7 @@ use Rattle.message.specs.Versions.{versionAllows, versionHas}
 use Rattle.message.specs.Messages.{largest}
 use Rattle.message.specs.Encode.{digits, cut, fromTo, kindOfMessage, partsOf}
 use Rattle.message.specs.Write.{Writing, bytes, refused, soFar, good, bad, Copy, copy, copied, copyValue, copyColumn, copyField, copyGroup, copyGroups, copyTuple, writeNumber, writeLetter, writeText, writeBytes, writeValue, writeField, writeGroup, writePart, writeFields, writeMessage, arity, arities}
-use Rattle.message.specs.Pieces.{Piece, placed, steps, bytesOf, piece, tested, numberPiece, letterPiece, lengthPiece, textPiece, contentPiece, sectionPiece, valuePieces, xidPiece, tuplePiece, fieldPieces, groupPieces, partPieces, layoutPieces, outcome, fieldsWritten, writeShort}
+use Rattle.message.specs.Pieces.{Piece, placed, steps, bytesOf, piece, tested, numberPiece, letterPiece, lengthPiece, textPiece, contentPiece, sectionPiece, valuePieces, xidPiece, tuplePiece, fieldPieces, groupPieces, partPieces, layoutPieces, outcome, writeShort, opened}
 use Rattle.message.proofs.Local.{Local, local-none, local-then, groupEnd, number-local, letter-local, text-local, bytes-local, value-local, column-local, tuple-local}
 use Rattle.message.proofs.Judged.{length-digits, length-cut, AllSound, steps-stay, steps-append, bytes-append, steps-end, field-sound, group-sound, part-sound}
 
@@ -393,9 +393,18 @@ layout-lays b (p ∷ ps) src vs =
     (part-sound b p src (getD vs 0 [])) (part-lays b p src (getD vs 0 [])) (layout-lays b ps src (drop 1 vs))
 
 -- LITERAL AND SHORT
+
+-- version and kind, and then what the fields give
+opened-first :
+    (ps : List Piece) (bs : List ℕ) (s t : Bool)
+    → cond s (refused 1 0) (cond t (refused 3 0) (outcome (steps ps (At 1)) bs)) ≡ outcome (steps ps (cond s (Refused 1 0) (cond t (Refused 3 0) (At 1)))) bs
+opened-first ps bs true t = rw (steps-stay ps 1 0)
+opened-first ps bs false true = rw (steps-stay ps 3 0)
+opened-first ps bs false false = refl
+
 pub short : (v : Version) (b : Bool) (m : Message) (src : List ℕ) → writeMessage v b m src ≡ writeShort v b m src
-unfolding writeMessage writeShort fieldsWritten placed
+unfolding writeMessage writeShort opened
 short v b m src =
     let k = kindOfMessage m in
-    ap (λ (w : Writing). cond (not (versionAllows v b)) (refused 1 0) (cond (not (versionHas v (some k))) (refused 3 0) w))
-    (layout-lays b (layout k) src (partsOf m) .lays (letterOf k ∷ []) (omega arith))
+    rw (layout-lays b (layout k) src (partsOf m) .lays (letterOf k ∷ []) (omega arith))
+    (opened-first (layoutPieces b (layout k) src (partsOf m)) _ (not (versionAllows v b)) (not (versionHas v (some k))))

@@ -3,7 +3,7 @@
 use Prim.Native.Nat.{ℕ, _+_, _-_}
 use mathlib.Core.List.{List, [], _∷_, _++_}
 use mathlib.Core.Bool.{Bool, not, cond}
-use mathlib.Core.Option.{some}
+use mathlib.Core.Option.{Option, some}
 use lib.ListN.{length, getD, take, drop}
 use lib.Dec.{eqb, leb}
 use Rattle.wire.specs.declared.Cursor.{Cursor}
@@ -13,7 +13,7 @@ use Rattle.wire.specs.Fields.{inRange, member}
 use Rattle.message.specs.declared.Version.{Version}
 use Rattle.message.specs.declared.Message.{Message}
 use Rattle.message.specs.Layout.{Field, Part, number, constant, letter, text, value, column, one, blockXid, groups, tuple, optionalTuple, columnLetters, hasValue, groupsEnd, tupleEnd}
-use Rattle.message.specs.Kinds.{layout, letterOf}
+use Rattle.message.specs.Kinds.{layout, letterOf, Kind}
 use Rattle.message.specs.Versions.{versionAllows, versionHas}
 use Rattle.message.specs.Messages.{largest}
 use Rattle.message.specs.Encode.{digits, cut, fromTo, kindOfMessage, partsOf}
@@ -138,12 +138,13 @@ abbrev pub outcome : Cursor → List ℕ → Writing
 outcome (At e) bs = bytes bs
 outcome (Refused n o) bs = refused n o
 
--- what the letter and the fields give
-unfoldable pub fieldsWritten : Bool → Message → List ℕ → Writing
-fieldsWritten b m src = let ps = messagePieces b m src in outcome (steps ps (At 0)) (bytesOf ps)
+-- version, then kind: where the fields start, behind the letter, or the refusal
+unfoldable pub opened : Version → Bool → Option Kind → Cursor
+opened v b k = cond (not (versionAllows v b)) (Refused 1 0) (cond (not (versionHas v k)) (Refused 3 0) (At 1))
+
+-- where the message ends, or the first refusal
+abbrev pub messageEnd : Version → Bool → Message → List ℕ → Cursor
+messageEnd v b m src = let k = kindOfMessage m in steps (layoutPieces b (layout k) src (partsOf m)) (opened v b (some k))
 
 unfoldable pub writeShort : Version → Bool → Message → List ℕ → Writing
-writeShort v b m src =
-    cond (not (versionAllows v b)) (refused 1 0)
-    (cond (not (versionHas v (some (kindOfMessage m)))) (refused 3 0)
-    (fieldsWritten b m src))
+writeShort v b m src = outcome (messageEnd v b m src) (bytesOf (messagePieces b m src))

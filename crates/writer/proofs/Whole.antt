@@ -2,7 +2,6 @@
 use Prim.Native.Nat.{ℕ, _≤_, _<_}
 use mathlib.Core.List.{List, _++_}
 use mathlib.Core.Bool.{Bool, true, false, cond}
-use mathlib.Core.Option.{some}
 use mathlib.Core.Path.{_≡_, refl, sym, _∙_, ap}
 use native.Mathlib.Omega.{arith}
 use borrow.Author.Tests.{le-leb, lt-leb, leb-true, leb-false}
@@ -14,12 +13,8 @@ use Rattle.wire.specs.declared.Cursor.the-variants.{At, Refused}
 use Rattle.wire.proofs.There.{no}
 use Rattle.message.specs.declared.Version.{Version}
 use Rattle.message.specs.declared.Message.{Message}
-use Rattle.message.specs.Kinds.{kindNumbered, kindNumber}
-use Rattle.message.specs.Versions.{versionAllows, versionHas}
-use Rattle.message.specs.Encode.{kindOfMessage}
 use Rattle.message.specs.Write.{Writing, bytes, refused, writeMessage}
-use Rattle.message.specs.Pieces.{placed, steps, bytesOf, messagePieces, outcome, fieldsWritten, writeShort}
-use Rattle.message.proofs.Letters.{numbered-number}
+use Rattle.message.specs.Pieces.{bytesOf, messagePieces, outcome, messageEnd, writeShort}
 use Rattle.message.proofs.Judged.{message-end}
 use Rattle.message.proofs.Short.{short}
 use Rattle.writer.specs.declared.Written.{Written}
@@ -27,14 +22,12 @@ use Rattle.writer.specs.declared.Written.the-variants.{Length}
 use Rattle.writer.specs.Answer.{answerOf, outputOf, refusal, Settles}
 use Rattle.writer.specs.Store.{roomFor, Stored}
 
--- the letter is good
-pub lettered : placed 0 0 (At 1) ≡ At 1
-unfolding placed
-lettered = refl
-
 -- ONE KIND
 
-module _ (b : Bool) (m : Message) (src out : List ℕ) {c d : Cursor} (judged : c ≡ steps (messagePieces b m src) (At 0)) (room : d ≡ roomFor (length out) c) where
+module _ (v : Version) (b : Bool) (m : Message) (src out : List ℕ) {c d : Cursor} (judged : c ≡ messageEnd v b m src) (room : d ≡ roomFor (length out) c) where
+  abbrev bs : List ℕ
+  bs = bytesOf (messagePieces b m src)
+
   fits : (c′ : Cursor) {n : ℕ} → roomFor (length out) c′ ≡ At n → (c′ ≡ At n) × (n ≤ length out)
   fits (Refused k o) q = no refl q
   fits (At e) {n} q = go (leb e (length out)) refl n q
@@ -43,58 +36,39 @@ module _ (b : Bool) (m : Message) (src out : List ℕ) {c d : Cursor} (judged : 
       go true f n q = let p : e ≡ n = cc in (q, omega (arith, leb-true e (length out) f))
       go false f n q = no refl q
 
-  pub refuse : {n o : ℕ} {r : Written} → d ≡ Refused n o → r ≡ refusal n o → Settles (fieldsWritten b m src) out r out
-  unfolding fieldsWritten
-  refuse {n} {o} e q = let s = go (steps (messagePieces b m src) (At 0)) refl (sym (room ∙ ap (roomFor (length out)) judged) ∙ e) in record { answer = q ∙ s .0; output = s .1 }
+  pub refuse : {n o : ℕ} {r : Written} → d ≡ Refused n o → r ≡ refusal n o → Settles (writeMessage v b m src) out r out
+  unfolding writeShort
+  refuse {n} {o} e q =
+      let s = go (messageEnd v b m src) refl (sym (room ∙ ap (roomFor (length out)) judged) ∙ e) in
+      rw (short v b m src) (record { answer = q ∙ s .0; output = s .1 })
     where
-      go :
-          (c′ : Cursor) → steps (messagePieces b m src) (At 0) ≡ c′ → roomFor (length out) c′ ≡ Refused n o
-          → (refusal n o ≡ answerOf (outcome c′ (bytesOf (messagePieces b m src))) out) × (out ≡ outputOf (outcome c′ (bytesOf (messagePieces b m src))) out)
+      go : (c′ : Cursor) → messageEnd v b m src ≡ c′ → roomFor (length out) c′ ≡ Refused n o → (refusal n o ≡ answerOf (outcome c′ bs) out) × (out ≡ outputOf (outcome c′ bs) out)
       go (Refused k i) s q = let x : k ≡ n = cc in let y : i ≡ o = cc in rw (x, y) (refl, refl)
       go (At k) s q = test (leb k (length out)) refl q
         where
-          test : (t : Bool) → leb k (length out) ≡ t → cond t (At k) (Refused 13 0) ≡ Refused n o → (refusal n o ≡ answerOf (outcome (At k) (bytesOf (messagePieces b m src))) out) × (out ≡ outputOf (outcome (At k) (bytesOf (messagePieces b m src))) out)
+          test : (t : Bool) → leb k (length out) ≡ t → cond t (At k) (Refused 13 0) ≡ Refused n o → (refusal n o ≡ answerOf (outcome (At k) bs) out) × (out ≡ outputOf (outcome (At k) bs) out)
           test true f q = no q refl
           test false f q =
               let x : 13 ≡ n = cc in
               let y : 0 ≡ o = cc in
-              let l : length out < length (bytesOf (messagePieces b m src)) = omega (arith, leb-false k (length out) f, message-end b m src k s .0) in
-              rw (← x, ← y, lt-leb (length (bytesOf (messagePieces b m src))) (length out) l) (refl, refl)
+              let l : length out < length bs = omega (arith, leb-false k (length out) f, message-end v b m src k s .0) in
+              rw (← x, ← y, lt-leb (length bs) (length out) l) (refl, refl)
 
   module _ {n : ℕ} (e : d ≡ At n) where
-    good : steps (messagePieces b m src) (At 0) ≡ At n
+    good : messageEnd v b m src ≡ At n
     good = sym judged ∙ fits c (sym room ∙ e) .0
 
-    pub has-room : length (bytesOf (messagePieces b m src)) ≤ length out
-    has-room = omega (arith, fits c (sym room ∙ e) .1, message-end b m src n good .0)
+    pub has-room : length bs ≤ length out
+    has-room = omega (arith, fits c (sym room ∙ e) .1, message-end v b m src n good .0)
 
-    pub accept-as : {o : List ℕ} {k : ℕ} → k ≡ length (bytesOf (messagePieces b m src)) → Stored (bytesOf (messagePieces b m src)) out o → Settles (fieldsWritten b m src) out (Length k) o
-    unfolding fieldsWritten
-    accept-as p q =
-        let l : leb (length (bytesOf (messagePieces b m src))) (length out) ≡ true = le-leb (length (bytesOf (messagePieces b m src))) (length out) has-room in
-        record { answer = rw (good, l) (ap Length p); output = rw (good, l) q }
-
-    pub accept : {o : List ℕ} → Stored (bytesOf (messagePieces b m src)) out o → Settles (fieldsWritten b m src) out (Length n) o
-    accept q = accept-as (message-end b m src n good .0) q
-
--- VERSION AND KIND
-
-module _ (v : Version) (b : Bool) (m : Message) (src out : List ℕ) where
-  pub bad-version : {r : Written} → versionAllows v b ≡ false → r ≡ refusal 1 0 → Settles (writeMessage v b m src) out r out
-  unfolding writeMessage
-  bad-version h q = record { answer = rw h q; output = rw h }
-
-  module _ (h : versionAllows v b ≡ true) {k : ℕ} {t : Bool} (kind : k ≡ kindNumber (some (kindOfMessage m))) (has : t ≡ versionHas v (kindNumbered k)) where
-    known : t ≡ versionHas v (some (kindOfMessage m))
-    known = has ∙ ap (λ (n : ℕ). versionHas v (kindNumbered n)) kind ∙ ap (versionHas v) (numbered-number (some (kindOfMessage m)))
-
-    pub no-kind : {r : Written} → t ≡ false → r ≡ refusal 3 0 → Settles (writeMessage v b m src) out r out
-    unfolding writeMessage
-    no-kind e q = record { answer = rw (h, ← known, e) q; output = rw (h, ← known, e) }
-
-    pub by-kind : {r : Written} {o : List ℕ} → t ≡ true → Settles (fieldsWritten b m src) out r o → Settles (writeMessage v b m src) out r o
+    pub accept-as : {o : List ℕ} {k : ℕ} → k ≡ length bs → Stored bs out o → Settles (writeMessage v b m src) out (Length k) o
     unfolding writeShort
-    by-kind e s = rw (short v b m src, h, ← known, e) s
+    accept-as p q =
+        let l : leb (length bs) (length out) ≡ true = le-leb (length bs) (length out) has-room in
+        rw (short v b m src) (record { answer = rw (good, l) (ap Length p); output = rw (good, l) q })
+
+    pub accept : {o : List ℕ} → Stored bs out o → Settles (writeMessage v b m src) out (Length n) o
+    accept q = accept-as (message-end v b m src n good .0) q
 
 -- AN ANSWER
 

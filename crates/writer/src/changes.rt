@@ -6,7 +6,8 @@ ghost use lib.ListN.{length};
 ghost use Rattle.wire.specs.declared.Cursor.the-variants.{At};
 ghost use Rattle.message.specs.declared.Message.the-variants as a;
 ghost use Rattle.message.specs.Layout.{id, tupleEnd, groupsEnd};
-ghost use Rattle.message.specs.Pieces.{messagePieces, bytesOf, fieldsWritten};
+ghost use Rattle.message.specs.Pieces.{messagePieces, bytesOf};
+ghost use Rattle.message.specs.Write.{writeMessage};
 ghost use Rattle.writer.specs.Answer.{Settles};
 ghost use Rattle.writer.specs.Store.{Stored, oldEnd};
 use crate::MAX64;
@@ -18,6 +19,8 @@ use message::Insert;
 use message::LogicalMessage;
 use message::Truncate;
 use message::Update;
+use message::Version;
+use message::kind;
 use wire::Cursor;
 use wire::Refusal;
 use wire::Span;
@@ -40,8 +43,14 @@ fn store_insert(out: &mut [u8], m: Insert, source: &[u8], in_block: bool, end: C
     laying::put_tuple(out, at, source, tuple, end);
 }
 
-pub fn write_insert(out: &mut [u8], m: Insert, source: &[u8], in_block: bool) -> Written
-    ensures { λ r. ⌜ Settles (fieldsWritten «in_block» (a.Insert m) (now (source .entry))) (now (out .entry)) r (now (out .exit)) ⌝ }
+pub fn write_insert(
+    version: Version,
+    in_block: bool,
+    m: Insert,
+    source: &[u8],
+    out: &mut [u8],
+) -> Written
+    ensures { λ r. ⌜ Settles (writeMessage version «in_block» (a.Insert m) (now (source .entry))) (now (out .entry)) r (now (out .exit)) ⌝ }
 {
     let Insert {
         xid,
@@ -49,7 +58,7 @@ pub fn write_insert(out: &mut [u8], m: Insert, source: &[u8], in_block: bool) ->
         tuple,
     } = m;
     let end = judging::judge_tuple(source, tuple);
-    let next = Cursor::At(1);
+    let next = judging::open(version, in_block, kind::INSERT);
     let next = judging::advance(next, 0, judging::judge_xid(in_block, xid));
     let next = judging::advance(next, 0, judging::judge_id(relation));
     let next = judging::advance(next, 0, Cursor::At(1));
@@ -89,8 +98,14 @@ fn store_update(
     laying::put_tuple(out, at, source, tuple, end);
 }
 
-pub fn write_update(out: &mut [u8], m: Update, source: &[u8], in_block: bool) -> Written
-    ensures { λ r. ⌜ Settles (fieldsWritten «in_block» (a.Update m) (now (source .entry))) (now (out .entry)) r (now (out .exit)) ⌝ }
+pub fn write_update(
+    version: Version,
+    in_block: bool,
+    m: Update,
+    source: &[u8],
+    out: &mut [u8],
+) -> Written
+    ensures { λ r. ⌜ Settles (writeMessage version «in_block» (a.Update m) (now (source .entry))) (now (out .entry)) r (now (out .exit)) ⌝ }
 {
     let Update {
         xid,
@@ -100,7 +115,7 @@ pub fn write_update(out: &mut [u8], m: Update, source: &[u8], in_block: bool) ->
     } = m;
     let middle = judging::old_end(source, old);
     let end = judging::judge_tuple(source, tuple);
-    let next = Cursor::At(1);
+    let next = judging::open(version, in_block, kind::UPDATE);
     let next = judging::advance(next, 0, judging::judge_xid(in_block, xid));
     let next = judging::advance(next, 0, judging::judge_id(relation));
     let next = judging::advance_old(next, old, middle);
@@ -133,8 +148,14 @@ fn store_delete(out: &mut [u8], m: Delete, source: &[u8], in_block: bool, end: C
     laying::put_tuple(out, at, source, tuple, end);
 }
 
-pub fn write_delete(out: &mut [u8], m: Delete, source: &[u8], in_block: bool) -> Written
-    ensures { λ r. ⌜ Settles (fieldsWritten «in_block» (a.Delete m) (now (source .entry))) (now (out .entry)) r (now (out .exit)) ⌝ }
+pub fn write_delete(
+    version: Version,
+    in_block: bool,
+    m: Delete,
+    source: &[u8],
+    out: &mut [u8],
+) -> Written
+    ensures { λ r. ⌜ Settles (writeMessage version «in_block» (a.Delete m) (now (source .entry))) (now (out .entry)) r (now (out .exit)) ⌝ }
 {
     let Delete {
         xid,
@@ -143,7 +164,7 @@ pub fn write_delete(out: &mut [u8], m: Delete, source: &[u8], in_block: bool) ->
         tuple,
     } = m;
     let end = judging::judge_tuple(source, tuple);
-    let next = Cursor::At(1);
+    let next = judging::open(version, in_block, kind::DELETE);
     let next = judging::advance(next, 0, judging::judge_xid(in_block, xid));
     let next = judging::advance(next, 0, judging::judge_id(relation));
     let next = judging::advance(next, 0, judging::judge_letter(b"KO", image));
@@ -175,8 +196,14 @@ fn store_truncate(out: &mut [u8], m: Truncate, source: &[u8], in_block: bool, en
     laying::put_tuple(out, at, source, relations, end);
 }
 
-pub fn write_truncate(out: &mut [u8], m: Truncate, source: &[u8], in_block: bool) -> Written
-    ensures { λ r. ⌜ Settles (fieldsWritten «in_block» (a.Truncate m) (now (source .entry))) (now (out .entry)) r (now (out .exit)) ⌝ }
+pub fn write_truncate(
+    version: Version,
+    in_block: bool,
+    m: Truncate,
+    source: &[u8],
+    out: &mut [u8],
+) -> Written
+    ensures { λ r. ⌜ Settles (writeMessage version «in_block» (a.Truncate m) (now (source .entry))) (now (out .entry)) r (now (out .exit)) ⌝ }
 {
     let Truncate {
         xid,
@@ -185,7 +212,7 @@ pub fn write_truncate(out: &mut [u8], m: Truncate, source: &[u8], in_block: bool
         relations,
     } = m;
     let end = reader::relation_oids(source, Cursor::At(relations), count);
-    let next = Cursor::At(1);
+    let next = judging::open(version, in_block, kind::TRUNCATE);
     let next = judging::advance(next, 0, judging::judge_xid(in_block, xid));
     let next = judging::advance(
         next,
@@ -230,12 +257,13 @@ fn store_logical_message(out: &mut [u8], m: LogicalMessage, source: &[u8], in_bl
 }
 
 pub fn write_logical_message(
-    out: &mut [u8],
+    version: Version,
+    in_block: bool,
     m: LogicalMessage,
     source: &[u8],
-    in_block: bool,
+    out: &mut [u8],
 ) -> Written
-    ensures { λ r. ⌜ Settles (fieldsWritten «in_block» (a.Message m) (now (source .entry))) (now (out .entry)) r (now (out .exit)) ⌝ }
+    ensures { λ r. ⌜ Settles (writeMessage version «in_block» (a.Message m) (now (source .entry))) (now (out .entry)) r (now (out .exit)) ⌝ }
 {
     let LogicalMessage {
         xid,
@@ -244,7 +272,7 @@ pub fn write_logical_message(
         prefix,
         content,
     } = m;
-    let next = Cursor::At(1);
+    let next = judging::open(version, in_block, kind::MESSAGE);
     let next = judging::advance(next, 0, judging::judge_xid(in_block, xid));
     let next = judging::advance(
         next,

@@ -6,11 +6,13 @@ ghost use Rattle.wire.specs.declared.Cursor.the-variants.{At};
 ghost use Rattle.wire.specs.Fields.{inRange, member};
 ghost use Rattle.message.specs.Layout.{tupleEnd};
 ghost use Rattle.message.specs.Encode.{cut};
-ghost use Rattle.message.specs.Pieces.{placed, advanced, tested, textJudgement, xidJudgement};
+ghost use Rattle.message.specs.Kinds.{kindNumbered};
+ghost use Rattle.message.specs.Pieces.{opened, placed, advanced, tested, textJudgement, xidJudgement};
 ghost use Rattle.writer.specs.Store.{roomFor, oldEnd, oldAdvanced};
 use crate::MAX32;
 use crate::Written;
 use message::OldTuple;
+use message::Version;
 use wire::Cursor;
 use wire::Refusal;
 use wire::Span;
@@ -20,6 +22,27 @@ pub fn less(a: usize, b: usize) -> usize
     ensures { λ r. ⌜ r ≡ a - b ⌝ }
 {
     if b <= a { a - b } else { 0 }
+}
+
+// Version, then kind: where the fields start, behind the letter.
+pub fn open(version: Version, in_block: bool, kind: u8) -> Cursor
+    ensures { λ r. ⌜ r ≡ opened version «in_block» (kindNumbered kind) ⌝ }
+{
+    if version.allows(in_block) {
+        if version.has(kind) {
+            Cursor::At(1)
+        } else {
+            Cursor::Refused {
+                number: Refusal::KIND,
+                offset: 0,
+            }
+        }
+    } else {
+        Cursor::Refused {
+            number: Refusal::VERSION,
+            offset: 0,
+        }
+    }
 }
 
 // A judgement whose start is moved to `at`; past the largest message it is too long.

@@ -6,7 +6,8 @@ ghost use Rattle.wire.specs.declared.Cursor.the-variants.{At};
 ghost use Rattle.message.specs.declared.Message.the-variants as a;
 ghost use Rattle.message.specs.Layout.{groupsEnd};
 ghost use Rattle.message.specs.Kinds.{columnFields};
-ghost use Rattle.message.specs.Pieces.{messagePieces, bytesOf, fieldsWritten};
+ghost use Rattle.message.specs.Write.{writeMessage};
+ghost use Rattle.message.specs.Pieces.{messagePieces, bytesOf};
 ghost use Rattle.writer.specs.Answer.{Settles};
 ghost use Rattle.writer.specs.Store.{Stored};
 use crate::MAX32;
@@ -15,6 +16,8 @@ use crate::judging;
 use crate::laying;
 use message::Relation;
 use message::Type;
+use message::Version;
+use message::kind;
 use wire::Cursor;
 use wire::Refusal;
 
@@ -43,8 +46,14 @@ fn store_relation(out: &mut [u8], m: Relation, source: &[u8], in_block: bool, en
     laying::put_tuple(out, at, source, columns, end);
 }
 
-pub fn write_relation(out: &mut [u8], m: Relation, source: &[u8], in_block: bool) -> Written
-    ensures { λ r. ⌜ Settles (fieldsWritten «in_block» (a.Relation m) (now (source .entry))) (now (out .entry)) r (now (out .exit)) ⌝ }
+pub fn write_relation(
+    version: Version,
+    in_block: bool,
+    m: Relation,
+    source: &[u8],
+    out: &mut [u8],
+) -> Written
+    ensures { λ r. ⌜ Settles (writeMessage version «in_block» (a.Relation m) (now (source .entry))) (now (out .entry)) r (now (out .exit)) ⌝ }
 {
     let Relation {
         xid,
@@ -56,7 +65,7 @@ pub fn write_relation(out: &mut [u8], m: Relation, source: &[u8], in_block: bool
         columns,
     } = m;
     let end = reader::relation_columns(source, Cursor::At(columns), count);
-    let next = Cursor::At(1);
+    let next = judging::open(version, in_block, kind::RELATION);
     let next = judging::advance(next, 0, judging::judge_xid(in_block, xid));
     let next = judging::advance(next, 0, judging::judge_id(relation));
     let next = judging::advance(next, 0, judging::judge_text(source, namespace));
@@ -95,8 +104,14 @@ fn store_type(out: &mut [u8], m: Type, source: &[u8], in_block: bool)
     laying::put_text(out, at, source, name);
 }
 
-pub fn write_type(out: &mut [u8], m: Type, source: &[u8], in_block: bool) -> Written
-    ensures { λ r. ⌜ Settles (fieldsWritten «in_block» (a.«Type» m) (now (source .entry))) (now (out .entry)) r (now (out .exit)) ⌝ }
+pub fn write_type(
+    version: Version,
+    in_block: bool,
+    m: Type,
+    source: &[u8],
+    out: &mut [u8],
+) -> Written
+    ensures { λ r. ⌜ Settles (writeMessage version «in_block» (a.«Type» m) (now (source .entry))) (now (out .entry)) r (now (out .exit)) ⌝ }
 {
     let Type {
         xid,
@@ -104,7 +119,7 @@ pub fn write_type(out: &mut [u8], m: Type, source: &[u8], in_block: bool) -> Wri
         namespace,
         name,
     } = m;
-    let next = Cursor::At(1);
+    let next = judging::open(version, in_block, kind::TYPE);
     let next = judging::advance(next, 0, judging::judge_xid(in_block, xid));
     let next = judging::advance(
         next,

@@ -1,10 +1,11 @@
 // The messages that begin and end transactions and stream blocks, and the Origin.
 ghost use mathlib.Core.Bool.{false};
-ghost use mathlib.Core.List.{[]};
-ghost use Prim.Native.Nat.{_≤_};
+ghost use mathlib.Core.List.{List, []};
+ghost use Prim.Native.Nat.{ℕ, _≤_};
 ghost use lib.ListN.{length};
 ghost use Rattle.message.specs.declared.Message.the-variants as a;
-ghost use Rattle.message.specs.Pieces.{messagePieces, bytesOf, fieldsWritten};
+ghost use Rattle.message.specs.Write.{writeMessage};
+ghost use Rattle.message.specs.Pieces.{messagePieces, bytesOf};
 ghost use Rattle.writer.specs.Answer.{Settles};
 ghost use Rattle.writer.specs.Store.{Stored};
 use crate::MAX64;
@@ -15,6 +16,8 @@ use message::Begin;
 use message::Commit;
 use message::Origin;
 use message::StreamCommit;
+use message::Version;
+use message::kind;
 use wire::Cursor;
 use wire::Refusal;
 
@@ -33,15 +36,15 @@ fn store_begin(out: &mut [u8], m: Begin)
     laying::put_number(out, at, 4, xid as u64);
 }
 
-pub fn write_begin(out: &mut [u8], m: Begin) -> Written
-    ensures { λ r. ⌜ Settles (fieldsWritten false (a.Begin m) []) (now (out .entry)) r (now (out .exit)) ⌝ }
+pub fn write_begin(version: Version, in_block: bool, m: Begin, out: &mut [u8]) -> Written
+    ensures { λ r. ⌜ ((src : List ℕ) → Settles (writeMessage version «in_block» (a.Begin m) src) (now (out .entry)) r (now (out .exit))) ⌝ }
 {
     let Begin {
         final_lsn,
         time,
         xid,
     } = m;
-    let next = Cursor::At(1);
+    let next = judging::open(version, in_block, kind::BEGIN);
     let next = judging::advance(
         next,
         0,
@@ -80,8 +83,8 @@ fn store_commit(out: &mut [u8], m: Commit)
     laying::put_number(out, at, 8, wire::bits64(time));
 }
 
-pub fn write_commit(out: &mut [u8], m: Commit) -> Written
-    ensures { λ r. ⌜ Settles (fieldsWritten false (a.Commit m) []) (now (out .entry)) r (now (out .exit)) ⌝ }
+pub fn write_commit(version: Version, in_block: bool, m: Commit, out: &mut [u8]) -> Written
+    ensures { λ r. ⌜ ((src : List ℕ) → Settles (writeMessage version «in_block» (a.Commit m) src) (now (out .entry)) r (now (out .exit))) ⌝ }
 {
     let Commit {
         flags,
@@ -89,7 +92,7 @@ pub fn write_commit(out: &mut [u8], m: Commit) -> Written
         end_lsn,
         time,
     } = m;
-    let next = Cursor::At(1);
+    let next = judging::open(version, in_block, kind::COMMIT);
     let next = judging::advance(
         next,
         0,
@@ -130,11 +133,17 @@ fn store_origin(out: &mut [u8], m: Origin, source: &[u8])
     laying::put_text(out, at, source, name);
 }
 
-pub fn write_origin(out: &mut [u8], m: Origin, source: &[u8]) -> Written
-    ensures { λ r. ⌜ Settles (fieldsWritten false (a.Origin m) (now (source .entry))) (now (out .entry)) r (now (out .exit)) ⌝ }
+pub fn write_origin(
+    version: Version,
+    in_block: bool,
+    m: Origin,
+    source: &[u8],
+    out: &mut [u8],
+) -> Written
+    ensures { λ r. ⌜ Settles (writeMessage version «in_block» (a.Origin m) (now (source .entry))) (now (out .entry)) r (now (out .exit)) ⌝ }
 {
     let Origin { lsn, name } = m;
-    let next = Cursor::At(1);
+    let next = judging::open(version, in_block, kind::ORIGIN);
     let next = judging::advance(
         next,
         0,
@@ -160,10 +169,16 @@ fn store_stream_start(out: &mut [u8], xid: u32, first: u8)
     laying::put_number(out, at, 1, first as u64);
 }
 
-pub fn write_stream_start(out: &mut [u8], xid: u32, first: u8) -> Written
-    ensures { λ r. ⌜ Settles (fieldsWritten false (a.StreamStart xid first) []) (now (out .entry)) r (now (out .exit)) ⌝ }
+pub fn write_stream_start(
+    version: Version,
+    in_block: bool,
+    xid: u32,
+    first: u8,
+    out: &mut [u8],
+) -> Written
+    ensures { λ r. ⌜ ((src : List ℕ) → Settles (writeMessage version «in_block» (a.StreamStart xid first) src) (now (out .entry)) r (now (out .exit))) ⌝ }
 {
-    let next = Cursor::At(1);
+    let next = judging::open(version, in_block, kind::STREAM_START);
     let next = judging::advance(next, 0, judging::judge_id(xid));
     let next = judging::advance(
         next,
@@ -180,10 +195,11 @@ pub fn write_stream_start(out: &mut [u8], xid: u32, first: u8) -> Written
     }
 }
 
-pub fn write_stream_stop(out: &mut [u8]) -> Written
-    ensures { λ r. ⌜ Settles (fieldsWritten false a.StreamStop []) (now (out .entry)) r (now (out .exit)) ⌝ }
+pub fn write_stream_stop(version: Version, in_block: bool, out: &mut [u8]) -> Written
+    ensures { λ r. ⌜ ((src : List ℕ) → Settles (writeMessage version «in_block» a.StreamStop src) (now (out .entry)) r (now (out .exit))) ⌝ }
 {
-    let next = judging::fit(Cursor::At(1), out.len());
+    let next = judging::open(version, in_block, kind::STREAM_STOP);
+    let next = judging::fit(next, out.len());
     match next {
         Cursor::Refused { number, offset } => judging::refused(number, offset),
         Cursor::At(_) => {
@@ -212,8 +228,13 @@ fn store_stream_commit(out: &mut [u8], m: StreamCommit)
     laying::put_number(out, at, 8, wire::bits64(time));
 }
 
-pub fn write_stream_commit(out: &mut [u8], m: StreamCommit) -> Written
-    ensures { λ r. ⌜ Settles (fieldsWritten false (a.StreamCommit m) []) (now (out .entry)) r (now (out .exit)) ⌝ }
+pub fn write_stream_commit(
+    version: Version,
+    in_block: bool,
+    m: StreamCommit,
+    out: &mut [u8],
+) -> Written
+    ensures { λ r. ⌜ ((src : List ℕ) → Settles (writeMessage version «in_block» (a.StreamCommit m) src) (now (out .entry)) r (now (out .exit))) ⌝ }
 {
     let StreamCommit {
         xid,
@@ -222,7 +243,7 @@ pub fn write_stream_commit(out: &mut [u8], m: StreamCommit) -> Written
         end_lsn,
         time,
     } = m;
-    let next = Cursor::At(1);
+    let next = judging::open(version, in_block, kind::STREAM_COMMIT);
     let next = judging::advance(next, 0, judging::judge_id(xid));
     let next = judging::advance(
         next,
@@ -263,10 +284,16 @@ fn store_stream_abort(out: &mut [u8], xid: u32, sub_xid: u32)
     laying::put_number(out, at, 4, sub_xid as u64);
 }
 
-pub fn write_stream_abort(out: &mut [u8], xid: u32, sub_xid: u32) -> Written
-    ensures { λ r. ⌜ Settles (fieldsWritten false (a.StreamAbort xid «sub_xid») []) (now (out .entry)) r (now (out .exit)) ⌝ }
+pub fn write_stream_abort(
+    version: Version,
+    in_block: bool,
+    xid: u32,
+    sub_xid: u32,
+    out: &mut [u8],
+) -> Written
+    ensures { λ r. ⌜ ((src : List ℕ) → Settles (writeMessage version «in_block» (a.StreamAbort xid «sub_xid») src) (now (out .entry)) r (now (out .exit))) ⌝ }
 {
-    let next = Cursor::At(1);
+    let next = judging::open(version, in_block, kind::STREAM_ABORT);
     let next = judging::advance(next, 0, judging::judge_id(xid));
     let next = judging::advance(next, 0, judging::judge_id(sub_xid));
     let next = judging::fit(next, out.len());

@@ -5,9 +5,8 @@ use mir.ValLaws.{toZ-ofZ}
 use borrow.Author.Needs.{needs}
 use Rattle.message.specs.declared.Message.the-variants as a
 use Rattle.message.specs.Kinds.{commit}
-use Rattle.message.specs.Pieces.{fieldsWritten}
 use Rattle.capi.specs.Flat.{messageIn}
-use Rattle.capi.proofs.Settled.{Taken, other, stopped, passed}
+use Rattle.capi.proofs.Settled.{Taken, other, written}
 use Rattle.capi.proofs.rows.write_commit.Statement.{statement}
 use Rattle.capi.proofs.rows.write_commit.Tie as tie
 
@@ -44,6 +43,9 @@ flatten-commit-requires c κs = tt
 same-row-requires : tie.Need-same-row-requires
 same-row-requires c κs = tt
 
+write-commit-requires : tie.Need-write-commit-requires
+write-commit-requires c κs = tt
+
 refused-requires : tie.Need-refused-requires
 refused-requires c κs = tt
 
@@ -75,34 +77,17 @@ taken c =
       tested = rw (c .same-row .ensures, c .before .before .flatten-commit .ensures);
     }
 
-returns : tie.Need-returns
-returns c src = other _ _ _ (taken (c .before .before)) (c .before .if1 .taken) (c .refused .ensures)
-
-barred-requires : tie.Need-barred-requires
-barred-requires c κs = tt
-
-refused-requires-2 : tie.Need-refused-requires-2
-refused-requires-2 c κs = tt
-
-returns-2 : tie.Need-returns-2
-unfolding taken
-returns-2 c src =
-    let l = c .before .before .before in
-    stopped _ _ _ (taken (l .before)) (l .if1 .left) (c .before .before .barred .ensures) (c .before .if2 .taken) (c .refused2 .ensures)
-
-write-commit-requires : tie.Need-write-commit-requires
-write-commit-requires c κs = tt
-
 same-length : tie.Need-same-length
 same-length c = search needs
 
-returns-3 : tie.Need-returns-3
-unfolding taken fieldsWritten
-returns-3 c src =
-    let k = c .before .before .before .before in
-    let l = k .before .before in
-    passed _ _ _ (taken (l .before)) (l .if1 .left) (k .before .barred .ensures) (k .if2 .left)
-    (c .before .before .write-commit .ensures)
+returns : tie.Need-returns
+unfolding taken
+returns c src =
+    let i = c .before .before .before .before in
+    written _ _ _ (taken (i .before)) (i .if1 .taken) (c .before .before .write-commit .ensures src)
+
+returns-2 : tie.Need-returns-2
+returns-2 c src = other _ _ _ (taken (c .before .before)) (c .before .if1 .left) (c .refused .ensures)
 
 pub write-commit-spec : {M : Type 1} → statement M
 write-commit-spec =
@@ -119,11 +104,8 @@ write-commit-spec =
     signed64-requires
     flatten-commit-requires
     same-row-requires
-    refused-requires
-    returns
-    barred-requires
-    refused-requires-2
-    returns-2
     write-commit-requires
+    refused-requires
     same-length
-    returns-3)
+    returns
+    returns-2)

@@ -3,7 +3,7 @@ use borrow.Author.Needs.{needs}
 use Rattle.message.specs.declared.Message.the-variants as a
 use Rattle.message.specs.Kinds.{relation}
 use Rattle.capi.specs.Flat.{messageIn}
-use Rattle.capi.proofs.Settled.{Taken, other, stopped, passed}
+use Rattle.capi.proofs.Settled.{Taken, other, written}
 use Rattle.capi.proofs.rows.write_relation.Statement.{statement}
 use Rattle.capi.proofs.rows.write_relation.Tie as tie
 
@@ -61,6 +61,9 @@ flatten-relation-requires c κs = tt
 same-row-requires : tie.Need-same-row-requires
 same-row-requires c κs = tt
 
+write-relation-requires : tie.Need-write-relation-requires
+write-relation-requires c κs = tt
+
 refused-requires : tie.Need-refused-requires
 refused-requires c κs = tt
 
@@ -99,34 +102,17 @@ taken c =
       tested = rw (c .same-row .ensures, c .before .before .flatten-relation .ensures);
     }
 
-returns : tie.Need-returns
-returns c = other _ _ _ (taken (c .before .before)) (c .before .if1 .taken) (c .refused .ensures)
-
-barred-requires : tie.Need-barred-requires
-barred-requires c κs = tt
-
-refused-requires-2 : tie.Need-refused-requires-2
-refused-requires-2 c κs = tt
-
-returns-2 : tie.Need-returns-2
-unfolding taken
-returns-2 c =
-    let l = c .before .before .before in
-    stopped _ _ _ (taken (l .before)) (l .if1 .left) (c .before .before .barred .ensures) (c .before .if2 .taken) (c .refused2 .ensures)
-
-write-relation-requires : tie.Need-write-relation-requires
-write-relation-requires c κs = tt
-
 same-length : tie.Need-same-length
 same-length c = search needs
 
-returns-3 : tie.Need-returns-3
+returns : tie.Need-returns
 unfolding taken
-returns-3 c =
-    let k = c .before .before .before .before in
-    let l = k .before .before in
-    passed _ _ _ (taken (l .before)) (l .if1 .left) (k .before .barred .ensures) (k .if2 .left)
-    (c .before .before .write-relation .ensures)
+returns c =
+    let i = c .before .before .before .before in
+    written _ _ _ (taken (i .before)) (i .if1 .taken) (c .before .before .write-relation .ensures)
+
+returns-2 : tie.Need-returns-2
+returns-2 c = other _ _ _ (taken (c .before .before)) (c .before .if1 .left) (c .refused .ensures)
 
 pub write-relation-spec : {M : Type 1} → statement M
 write-relation-spec =
@@ -150,11 +136,8 @@ write-relation-spec =
     offset-requires
     flatten-relation-requires
     same-row-requires
-    refused-requires
-    returns
-    barred-requires
-    refused-requires-2
-    returns-2
     write-relation-requires
+    refused-requires
     same-length
-    returns-3)
+    returns
+    returns-2)

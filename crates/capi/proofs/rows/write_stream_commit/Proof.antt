@@ -5,9 +5,8 @@ use mir.ValLaws.{toZ-ofZ}
 use borrow.Author.Needs.{needs}
 use Rattle.message.specs.declared.Message.the-variants as a
 use Rattle.message.specs.Kinds.{streamCommit}
-use Rattle.message.specs.Pieces.{fieldsWritten}
 use Rattle.capi.specs.Flat.{messageIn}
-use Rattle.capi.proofs.Settled.{Taken, other, stopped, passed}
+use Rattle.capi.proofs.Settled.{Taken, other, written}
 use Rattle.capi.proofs.rows.write_stream_commit.Statement.{statement}
 use Rattle.capi.proofs.rows.write_stream_commit.Tie as tie
 
@@ -50,6 +49,9 @@ flatten-stream-commit-requires c κs = tt
 same-row-requires : tie.Need-same-row-requires
 same-row-requires c κs = tt
 
+write-stream-commit-requires : tie.Need-write-stream-commit-requires
+write-stream-commit-requires c κs = tt
+
 refused-requires : tie.Need-refused-requires
 refused-requires c κs = tt
 
@@ -84,34 +86,17 @@ taken c =
       tested = rw (c .same-row .ensures, c .before .before .flatten-stream-commit .ensures);
     }
 
-returns : tie.Need-returns
-returns c src = other _ _ _ (taken (c .before .before)) (c .before .if1 .taken) (c .refused .ensures)
-
-barred-requires : tie.Need-barred-requires
-barred-requires c κs = tt
-
-refused-requires-2 : tie.Need-refused-requires-2
-refused-requires-2 c κs = tt
-
-returns-2 : tie.Need-returns-2
-unfolding taken
-returns-2 c src =
-    let l = c .before .before .before in
-    stopped _ _ _ (taken (l .before)) (l .if1 .left) (c .before .before .barred .ensures) (c .before .if2 .taken) (c .refused2 .ensures)
-
-write-stream-commit-requires : tie.Need-write-stream-commit-requires
-write-stream-commit-requires c κs = tt
-
 same-length : tie.Need-same-length
 same-length c = search needs
 
-returns-3 : tie.Need-returns-3
-unfolding taken fieldsWritten
-returns-3 c src =
-    let k = c .before .before .before .before in
-    let l = k .before .before in
-    passed _ _ _ (taken (l .before)) (l .if1 .left) (k .before .barred .ensures) (k .if2 .left)
-    (c .before .before .write-stream-commit .ensures)
+returns : tie.Need-returns
+unfolding taken
+returns c src =
+    let i = c .before .before .before .before in
+    written _ _ _ (taken (i .before)) (i .if1 .taken) (c .before .before .write-stream-commit .ensures src)
+
+returns-2 : tie.Need-returns-2
+returns-2 c src = other _ _ _ (taken (c .before .before)) (c .before .if1 .left) (c .refused .ensures)
 
 pub write-stream-commit-spec : {M : Type 1} → statement M
 write-stream-commit-spec =
@@ -130,11 +115,8 @@ write-stream-commit-spec =
     signed64-requires
     flatten-stream-commit-requires
     same-row-requires
-    refused-requires
-    returns
-    barred-requires
-    refused-requires-2
-    returns-2
     write-stream-commit-requires
+    refused-requires
     same-length
-    returns-3)
+    returns
+    returns-2)

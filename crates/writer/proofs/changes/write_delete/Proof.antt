@@ -1,14 +1,15 @@
 use mathlib.Core.Path.{_≡_}
 use borrow.Author.Needs.{needs}
-use Rattle.wire.specs.declared.Cursor.the-variants.{At}
-use Rattle.message.specs.Pieces.{messagePieces, steps}
+use Rattle.message.specs.Kinds.{numbered}
+use Rattle.message.specs.Pieces.{messageEnd}
 use Rattle.message.specs.declared.Message.the-variants as a
-use Rattle.writer.proofs.Whole.{lettered, refuse, has-room, accept}
+use Rattle.writer.proofs.Whole.{refuse, has-room, accept}
 use Rattle.writer.proofs.changes.write_delete.Statement.{statement}
 use Rattle.writer.proofs.changes.write_delete.Tie as tie
 
 -- the judgement of the fields
-judged : (c : tie.After-fit) → (let s = c .before .before .before .before .before .before .before .before .before .before .before .before in c .before .advance4 .result ≡ steps (messagePieces (s .args .in-block) (a.Delete (s .args .m)) (s .args .source .now)) (At 0))
+judged : (c : tie.After-fit) → (let s = c .before .before .before .before .before .before .before .before .before .before .before .before .before in c .before .advance4 .result ≡ messageEnd (s .args .version) (s .args .in-block) (a.Delete (s .args .m)) (s .args .source .now))
+unfolding numbered
 judged c =
     rw (
       c .before .advance4 .ensures,
@@ -18,12 +19,15 @@ judged c =
       c .before .before .before .judge-letter .ensures,
       c .before .before .before .before .before .before .judge-id .ensures,
       c .before .before .before .before .before .before .before .before .judge-xid .ensures,
-      c .before .before .before .before .before .before .before .before .before .judge-tuple .ensures,
-      lettered,
+      c .before .before .before .before .before .before .before .before .before .before .judge-tuple .ensures,
+      c .before .before .before .before .before .before .before .before .before .open .ensures,
     )
 
 judge-tuple-requires : tie.Need-judge-tuple-requires
 judge-tuple-requires c κs = tt
+
+open-requires : tie.Need-open-requires
+open-requires c κs = tt
 
 judge-xid-requires : tie.Need-judge-xid-requires
 judge-xid-requires c κs = tt
@@ -63,16 +67,16 @@ enum-known-next-2 c = search needs
 
 store-delete-requires : tie.Need-store-delete-requires
 store-delete-requires c κs =
-    let s = c .before .before .before .before .before .before .before .before .before .before .before .before .before .before .before .before in (
-      c .before .before .before .before .before .before .before .before .before .before .before .before .before .judge-tuple .ensures,
-      has-room (s .args .in-block) (a.Delete (s .args .m)) (s .args .source .now) (s .args .out .now)
+    let s = c .before .before .before .before .before .before .before .before .before .before .before .before .before .before .before .before .before in (
+      c .before .before .before .before .before .before .before .before .before .before .before .before .before .before .judge-tuple .ensures,
+      has-room (s .args .version) (s .args .in-block) (a.Delete (s .args .m)) (s .args .source .now) (s .args .out .now)
           (judged (c .before .before .before .before)) (c .before .before .before .before .fit .ensures) (c .before .before .next2 .given .1),
     )
 
 returns : tie.Need-returns
 returns c =
-    let s = c .before .before .before .before .before .before .before .before .before .before .before .before .before .before .before .before in
-    refuse (s .args .in-block) (a.Delete (s .args .m)) (s .args .source .now) (s .args .out .now)
+    let s = c .before .before .before .before .before .before .before .before .before .before .before .before .before .before .before .before .before in
+    refuse (s .args .version) (s .args .in-block) (a.Delete (s .args .m)) (s .args .source .now) (s .args .out .now)
     (judged (c .before .before .before .before)) (c .before .before .before .before .fit .ensures)
     (c .before .before .next .given .1) (c .refused .ensures)
 
@@ -81,8 +85,8 @@ same-length c = search needs
 
 returns-2 : tie.Need-returns-2
 returns-2 c =
-    let s = c .before .before .before .before .before .before .before .before .before .before .before .before .before .before .before .before .before .before .before in
-    accept (s .args .in-block) (a.Delete (s .args .m)) (s .args .source .now) (s .args .out .now)
+    let s = c .before .before .before .before .before .before .before .before .before .before .before .before .before .before .before .before .before .before .before .before in
+    accept (s .args .version) (s .args .in-block) (a.Delete (s .args .m)) (s .args .source .now) (s .args .out .now)
     (judged (c .before .before .before .before .before .before .before)) (c .before .before .before .before .before .before .before .fit .ensures)
     (c .before .before .before .before .before .next2 .given .1) (c .before .before .store-delete .ensures)
 
@@ -91,6 +95,7 @@ write-delete-spec =
     tie.close
     (tie.spec
     judge-tuple-requires
+    open-requires
     judge-xid-requires
     advance-requires
     judge-id-requires

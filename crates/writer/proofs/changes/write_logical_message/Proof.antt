@@ -1,14 +1,15 @@
 use mathlib.Core.Path.{_≡_}
 use borrow.Author.Needs.{needs}
-use Rattle.wire.specs.declared.Cursor.the-variants.{At}
-use Rattle.message.specs.Pieces.{messagePieces, steps}
+use Rattle.message.specs.Kinds.{numbered}
+use Rattle.message.specs.Pieces.{messageEnd}
 use Rattle.message.specs.declared.Message.the-variants as a
-use Rattle.writer.proofs.Whole.{lettered, refuse, has-room, accept}
+use Rattle.writer.proofs.Whole.{refuse, has-room, accept}
 use Rattle.writer.proofs.changes.write_logical_message.Statement.{statement}
 use Rattle.writer.proofs.changes.write_logical_message.Tie as tie
 
 -- the judgement of the fields
-judged : (c : tie.After-fit) → (let s = c .before .before .before .before .before .before .before .before .before .before .before .before .before .before .before .before in c .before .advance6 .result ≡ steps (messagePieces (s .args .in-block) (a.Message (s .args .m)) (s .args .source .now)) (At 0))
+judged : (c : tie.After-fit) → (let s = c .before .before .before .before .before .before .before .before .before .before .before .before .before .before .before .before .before in c .before .advance6 .result ≡ messageEnd (s .args .version) (s .args .in-block) (a.Message (s .args .m)) (s .args .source .now))
+unfolding numbered
 judged c =
     rw (
       c .before .advance6 .ensures,
@@ -22,8 +23,11 @@ judged c =
       c .before .before .before .before .before .before .before .judge-number2 .ensures,
       c .before .before .before .before .before .before .before .before .before .judge-number .ensures,
       c .before .before .before .before .before .before .before .before .before .before .before .judge-xid .ensures,
-      lettered,
+      c .before .before .before .before .before .before .before .before .before .before .before .before .open .ensures,
     )
+
+open-requires : tie.Need-open-requires
+open-requires c κs = tt
 
 judge-xid-requires : tie.Need-judge-xid-requires
 judge-xid-requires c κs = tt
@@ -75,14 +79,14 @@ enum-known-next-2 c = search needs
 
 store-logical-message-requires : tie.Need-store-logical-message-requires
 store-logical-message-requires c κs =
-    let s = c .before .before .before .before .before .before .before .before .before .before .before .before .before .before .before .before .before .before .before .before in
-    has-room (s .args .in-block) (a.Message (s .args .m)) (s .args .source .now) (s .args .out .now)
+    let s = c .before .before .before .before .before .before .before .before .before .before .before .before .before .before .before .before .before .before .before .before .before in
+    has-room (s .args .version) (s .args .in-block) (a.Message (s .args .m)) (s .args .source .now) (s .args .out .now)
     (judged (c .before .before .before .before)) (c .before .before .before .before .fit .ensures) (c .before .before .next2 .given .1)
 
 returns : tie.Need-returns
 returns c =
-    let s = c .before .before .before .before .before .before .before .before .before .before .before .before .before .before .before .before .before .before .before .before in
-    refuse (s .args .in-block) (a.Message (s .args .m)) (s .args .source .now) (s .args .out .now)
+    let s = c .before .before .before .before .before .before .before .before .before .before .before .before .before .before .before .before .before .before .before .before .before in
+    refuse (s .args .version) (s .args .in-block) (a.Message (s .args .m)) (s .args .source .now) (s .args .out .now)
     (judged (c .before .before .before .before)) (c .before .before .before .before .fit .ensures)
     (c .before .before .next .given .1) (c .refused .ensures)
 
@@ -91,8 +95,8 @@ same-length c = search needs
 
 returns-2 : tie.Need-returns-2
 returns-2 c =
-    let s = c .before .before .before .before .before .before .before .before .before .before .before .before .before .before .before .before .before .before .before .before .before .before .before in
-    accept (s .args .in-block) (a.Message (s .args .m)) (s .args .source .now) (s .args .out .now)
+    let s = c .before .before .before .before .before .before .before .before .before .before .before .before .before .before .before .before .before .before .before .before .before .before .before .before in
+    accept (s .args .version) (s .args .in-block) (a.Message (s .args .m)) (s .args .source .now) (s .args .out .now)
     (judged (c .before .before .before .before .before .before .before)) (c .before .before .before .before .before .before .before .fit .ensures)
     (c .before .before .before .before .before .next2 .given .1) (c .before .before .store-logical-message .ensures)
 
@@ -100,6 +104,7 @@ pub write-logical-message-spec : {M : Type 1} → statement M
 write-logical-message-spec =
     tie.close
     (tie.spec
+    open-requires
     judge-xid-requires
     advance-requires
     cast-judge-number

@@ -1,8 +1,8 @@
 use mathlib.Core.List.{[], _∷_}
 use mathlib.Core.Path.{_≡_}
 use borrow.Author.Needs.{needs}
-use Rattle.wire.specs.declared.Cursor.the-variants.{At}
-use Rattle.message.specs.Pieces.{messagePieces, steps, bytePiece, tuplePiece, placed}
+use Rattle.message.specs.Kinds.{numbered}
+use Rattle.message.specs.Pieces.{bytePiece, tuplePiece, messageEnd}
 use Rattle.message.specs.declared.Message.the-variants as a
 use Rattle.writer.proofs.Old.{old-steps}
 use Rattle.writer.proofs.Whole.{refuse, has-room, accept}
@@ -10,8 +10,8 @@ use Rattle.writer.proofs.changes.write_update.Statement.{statement}
 use Rattle.writer.proofs.changes.write_update.Tie as tie
 
 -- the judgement of the fields
-judged : (c : tie.After-fit) → (let s = c .before .before .before .before .before .before .before .before .before .before .before .before in c .before .advance4 .result ≡ steps (messagePieces (s .args .in-block) (a.Update (s .args .m)) (s .args .source .now)) (At 0))
-unfolding placed
+judged : (c : tie.After-fit) → (let s = c .before .before .before .before .before .before .before .before .before .before .before .before .before in c .before .advance4 .result ≡ messageEnd (s .args .version) (s .args .in-block) (a.Update (s .args .m)) (s .args .source .now))
+unfolding numbered
 judged c =
     rw (
       c .before .advance4 .ensures,
@@ -21,15 +21,19 @@ judged c =
       c .before .before .before .before .before .before .advance .ensures,
       c .before .before .before .before .before .judge-id .ensures,
       c .before .before .before .before .before .before .before .judge-xid .ensures,
-      c .before .before .before .before .before .before .before .before .judge-tuple .ensures,
+      c .before .before .before .before .before .before .before .before .before .judge-tuple .ensures,
+      c .before .before .before .before .before .before .before .before .open .ensures,
     )
-    (old-steps (c .before .before .before .before .before .before .before .before .before .before .before .before .args .source .now) (c .before .before .before .before .before .before .before .before .before .before .before .before .args .m .old) (c .before .before .before .before .before .before .before .before .before .old-end .ensures) _ (bytePiece 0x4E ∷ tuplePiece (c .before .before .before .before .before .before .before .before .before .before .before .before .args .source .now) (c .before .before .before .before .before .before .before .before .before .before .before .before .args .m .tuple) ∷ []))
+    (old-steps (c .before .before .before .before .before .before .before .before .before .before .before .before .before .args .source .now) (c .before .before .before .before .before .before .before .before .before .before .before .before .before .args .m .old) (c .before .before .before .before .before .before .before .before .before .before .old-end .ensures) _ (bytePiece 0x4E ∷ tuplePiece (c .before .before .before .before .before .before .before .before .before .before .before .before .before .args .source .now) (c .before .before .before .before .before .before .before .before .before .before .before .before .before .args .m .tuple) ∷ []))
 
 old-end-requires : tie.Need-old-end-requires
 old-end-requires c κs = tt
 
 judge-tuple-requires : tie.Need-judge-tuple-requires
 judge-tuple-requires c κs = tt
+
+open-requires : tie.Need-open-requires
+open-requires c κs = tt
 
 judge-xid-requires : tie.Need-judge-xid-requires
 judge-xid-requires c κs = tt
@@ -66,17 +70,17 @@ enum-known-next-2 c = search needs
 
 store-update-requires : tie.Need-store-update-requires
 store-update-requires c κs =
-    let s = c .before .before .before .before .before .before .before .before .before .before .before .before .before .before .before .before in (
-      c .before .before .before .before .before .before .before .before .before .before .before .before .before .old-end .ensures,
-      c .before .before .before .before .before .before .before .before .before .before .before .before .judge-tuple .ensures,
-      has-room (s .args .in-block) (a.Update (s .args .m)) (s .args .source .now) (s .args .out .now)
+    let s = c .before .before .before .before .before .before .before .before .before .before .before .before .before .before .before .before .before in (
+      c .before .before .before .before .before .before .before .before .before .before .before .before .before .before .old-end .ensures,
+      c .before .before .before .before .before .before .before .before .before .before .before .before .before .judge-tuple .ensures,
+      has-room (s .args .version) (s .args .in-block) (a.Update (s .args .m)) (s .args .source .now) (s .args .out .now)
           (judged (c .before .before .before .before)) (c .before .before .before .before .fit .ensures) (c .before .before .next2 .given .1),
     )
 
 returns : tie.Need-returns
 returns c =
-    let s = c .before .before .before .before .before .before .before .before .before .before .before .before .before .before .before .before in
-    refuse (s .args .in-block) (a.Update (s .args .m)) (s .args .source .now) (s .args .out .now)
+    let s = c .before .before .before .before .before .before .before .before .before .before .before .before .before .before .before .before .before in
+    refuse (s .args .version) (s .args .in-block) (a.Update (s .args .m)) (s .args .source .now) (s .args .out .now)
     (judged (c .before .before .before .before)) (c .before .before .before .before .fit .ensures)
     (c .before .before .next .given .1) (c .refused .ensures)
 
@@ -85,8 +89,8 @@ same-length c = search needs
 
 returns-2 : tie.Need-returns-2
 returns-2 c =
-    let s = c .before .before .before .before .before .before .before .before .before .before .before .before .before .before .before .before .before .before .before in
-    accept (s .args .in-block) (a.Update (s .args .m)) (s .args .source .now) (s .args .out .now)
+    let s = c .before .before .before .before .before .before .before .before .before .before .before .before .before .before .before .before .before .before .before .before in
+    accept (s .args .version) (s .args .in-block) (a.Update (s .args .m)) (s .args .source .now) (s .args .out .now)
     (judged (c .before .before .before .before .before .before .before)) (c .before .before .before .before .before .before .before .fit .ensures)
     (c .before .before .before .before .before .next2 .given .1) (c .before .before .store-update .ensures)
 
@@ -96,6 +100,7 @@ write-update-spec =
     (tie.spec
     old-end-requires
     judge-tuple-requires
+    open-requires
     judge-xid-requires
     advance-requires
     judge-id-requires

@@ -2,15 +2,16 @@ use mathlib.Core.Path.{_≡_}
 use borrow.Author.Needs.{needs}
 use mir.Val.{Fits}
 use mir.Syntax.{w64}
-use Rattle.wire.specs.declared.Cursor.the-variants.{At}
-use Rattle.message.specs.Pieces.{messagePieces, steps}
+use Rattle.message.specs.Kinds.{numbered}
+use Rattle.message.specs.Pieces.{messageEnd}
 use Rattle.message.specs.declared.Message.the-variants as a
-use Rattle.writer.proofs.Whole.{lettered, refuse, has-room, accept}
+use Rattle.writer.proofs.Whole.{refuse, has-room, accept}
 use Rattle.writer.proofs.schema.write_relation.Statement.{statement}
 use Rattle.writer.proofs.schema.write_relation.Tie as tie
 
 -- the judgement of the fields
-judged : (c : tie.After-fit) → (let s = c .before .before .before .before .before .before .before .before .before .before .before .before .before .before .before .before .before .before .before .before in c .before .advance7 .result ≡ steps (messagePieces (s .args .in-block) (a.Relation (s .args .m)) (s .args .source .now)) (At 0))
+judged : (c : tie.After-fit) → (let s = c .before .before .before .before .before .before .before .before .before .before .before .before .before .before .before .before .before .before .before .before .before in c .before .advance7 .result ≡ messageEnd (s .args .version) (s .args .in-block) (a.Relation (s .args .m)) (s .args .source .now))
+unfolding numbered
 judged c =
     rw (
       c .before .advance7 .ensures,
@@ -26,8 +27,8 @@ judged c =
       c .before .before .before .before .before .before .before .before .before .before .judge-text .ensures,
       c .before .before .before .before .before .before .before .before .before .before .before .before .judge-id .ensures,
       c .before .before .before .before .before .before .before .before .before .before .before .before .before .before .judge-xid .ensures,
-      c .before .before .before .before .before .before .before .before .before .before .before .before .before .before .before .relation-columns .ensures,
-      lettered,
+      c .before .before .before .before .before .before .before .before .before .before .before .before .before .before .before .before .relation-columns .ensures,
+      c .before .before .before .before .before .before .before .before .before .before .before .before .before .before .before .open .ensures,
     )
 
 count-fits : (c : tie.Start) → Fits w64 (c .args .m .count)
@@ -35,6 +36,9 @@ count-fits c = search needs
 
 relation-columns-requires : tie.Need-relation-columns-requires
 relation-columns-requires c κs = tt
+
+open-requires : tie.Need-open-requires
+open-requires c κs = tt
 
 judge-xid-requires : tie.Need-judge-xid-requires
 judge-xid-requires c κs = tt
@@ -71,7 +75,7 @@ advance-requires-5 c κs = tt
 
 cast-judge-number : tie.Need-cast-judge-number
 cast-judge-number c =
-    count-fits (c .before .before .before .before .before .before .before .before .before .before .before .before .before .before .before .before)
+    count-fits (c .before .before .before .before .before .before .before .before .before .before .before .before .before .before .before .before .before)
 
 judge-number-requires : tie.Need-judge-number-requires
 judge-number-requires c κs = tt
@@ -96,16 +100,16 @@ enum-known-next-2 c = search needs
 
 store-relation-requires : tie.Need-store-relation-requires
 store-relation-requires c κs =
-    let s = c .before .before .before .before .before .before .before .before .before .before .before .before .before .before .before .before .before .before .before .before .before .before .before .before in (
-      c .before .before .before .before .before .before .before .before .before .before .before .before .before .before .before .before .before .before .before .relation-columns .ensures,
-      has-room (s .args .in-block) (a.Relation (s .args .m)) (s .args .source .now) (s .args .out .now)
+    let s = c .before .before .before .before .before .before .before .before .before .before .before .before .before .before .before .before .before .before .before .before .before .before .before .before .before in (
+      c .before .before .before .before .before .before .before .before .before .before .before .before .before .before .before .before .before .before .before .before .relation-columns .ensures,
+      has-room (s .args .version) (s .args .in-block) (a.Relation (s .args .m)) (s .args .source .now) (s .args .out .now)
           (judged (c .before .before .before .before)) (c .before .before .before .before .fit .ensures) (c .before .before .next2 .given .1),
     )
 
 returns : tie.Need-returns
 returns c =
-    let s = c .before .before .before .before .before .before .before .before .before .before .before .before .before .before .before .before .before .before .before .before .before .before .before .before in
-    refuse (s .args .in-block) (a.Relation (s .args .m)) (s .args .source .now) (s .args .out .now)
+    let s = c .before .before .before .before .before .before .before .before .before .before .before .before .before .before .before .before .before .before .before .before .before .before .before .before .before in
+    refuse (s .args .version) (s .args .in-block) (a.Relation (s .args .m)) (s .args .source .now) (s .args .out .now)
     (judged (c .before .before .before .before)) (c .before .before .before .before .fit .ensures)
     (c .before .before .next .given .1) (c .refused .ensures)
 
@@ -114,8 +118,8 @@ same-length c = search needs
 
 returns-2 : tie.Need-returns-2
 returns-2 c =
-    let s = c .before .before .before .before .before .before .before .before .before .before .before .before .before .before .before .before .before .before .before .before .before .before .before .before .before .before .before in
-    accept (s .args .in-block) (a.Relation (s .args .m)) (s .args .source .now) (s .args .out .now)
+    let s = c .before .before .before .before .before .before .before .before .before .before .before .before .before .before .before .before .before .before .before .before .before .before .before .before .before .before .before .before in
+    accept (s .args .version) (s .args .in-block) (a.Relation (s .args .m)) (s .args .source .now) (s .args .out .now)
     (judged (c .before .before .before .before .before .before .before)) (c .before .before .before .before .before .before .before .fit .ensures)
     (c .before .before .before .before .before .next2 .given .1) (c .before .before .store-relation .ensures)
 
@@ -124,6 +128,7 @@ write-relation-spec =
     tie.close
     (tie.spec
     relation-columns-requires
+    open-requires
     judge-xid-requires
     advance-requires
     judge-id-requires

@@ -1,14 +1,14 @@
-use mathlib.Core.List.{[]}
-use mathlib.Core.Bool.{false}
+use Prim.Native.Nat.{ℕ}
+use mathlib.Core.List.{List, []}
 use mathlib.Core.Path.{_≡_}
 use borrow.Author.Needs.{needs}
 use mir.ValLaws.{toZ-ofZ}
 use mir.Val.{SFits}
 use mir.Syntax.{w64}
-use Rattle.wire.specs.declared.Cursor.the-variants.{At}
-use Rattle.message.specs.Pieces.{messagePieces, steps}
+use Rattle.message.specs.Kinds.{numbered}
+use Rattle.message.specs.Pieces.{messageEnd}
 use Rattle.message.specs.declared.Message.the-variants as a
-use Rattle.writer.proofs.Whole.{lettered, refuse, has-room, accept}
+use Rattle.writer.proofs.Whole.{refuse, has-room, accept}
 use Rattle.writer.proofs.transactions.write_commit.Statement.{statement}
 use Rattle.writer.proofs.transactions.write_commit.Tie as tie
 
@@ -16,8 +16,9 @@ fits : (c : tie.Start) → SFits w64 (c .args .m .time)
 fits c = search needs
 
 -- the judgement of the fields
-judged : (c : tie.After-fit) → (let s = c .before .before .before .before .before .before .before .before .before .before .before .before in c .before .advance4 .result ≡ steps (messagePieces false (a.Commit (s .args .m)) []) (At 0))
-judged c =
+judged : (c : tie.After-fit) (src : List ℕ) → (let s = c .before .before .before .before .before .before .before .before .before .before .before .before .before in c .before .advance4 .result ≡ messageEnd (s .args .version) (s .args .in-block) (a.Commit (s .args .m)) src)
+unfolding numbered
+judged c src =
     rw (
       c .before .advance4 .ensures,
       c .before .before .before .before .advance3 .ensures,
@@ -28,9 +29,12 @@ judged c =
       c .before .before .before .before .before .judge-number3 .ensures,
       c .before .before .before .before .before .before .before .judge-number2 .ensures,
       c .before .before .before .before .before .before .before .before .before .judge-number .ensures,
-      toZ-ofZ w64 (c .before .before .before .before .before .before .before .before .before .before .before .before .args .m .time) (fits (c .before .before .before .before .before .before .before .before .before .before .before .before)),
-      lettered,
+      toZ-ofZ w64 (c .before .before .before .before .before .before .before .before .before .before .before .before .before .args .m .time) (fits (c .before .before .before .before .before .before .before .before .before .before .before .before .before)),
+      c .before .before .before .before .before .before .before .before .before .before .open .ensures,
     )
+
+open-requires : tie.Need-open-requires
+open-requires c κs = tt
 
 cast-judge-number : tie.Need-cast-judge-number
 cast-judge-number c = search needs
@@ -76,31 +80,32 @@ enum-known-next-2 c = search needs
 
 store-commit-requires : tie.Need-store-commit-requires
 store-commit-requires c κs =
-    let s = c .before .before .before .before .before .before .before .before .before .before .before .before .before .before .before .before in
-    has-room false (a.Commit (s .args .m)) [] (s .args .out .now)
-    (judged (c .before .before .before .before)) (c .before .before .before .before .fit .ensures) (c .before .before .next2 .given .1)
+    let s = c .before .before .before .before .before .before .before .before .before .before .before .before .before .before .before .before .before in
+    has-room (s .args .version) (s .args .in-block) (a.Commit (s .args .m)) [] (s .args .out .now)
+    (judged (c .before .before .before .before) []) (c .before .before .before .before .fit .ensures) (c .before .before .next2 .given .1)
 
 returns : tie.Need-returns
-returns c =
-    let s = c .before .before .before .before .before .before .before .before .before .before .before .before .before .before .before .before in
-    refuse false (a.Commit (s .args .m)) [] (s .args .out .now)
-    (judged (c .before .before .before .before)) (c .before .before .before .before .fit .ensures)
+returns c src =
+    let s = c .before .before .before .before .before .before .before .before .before .before .before .before .before .before .before .before .before in
+    refuse (s .args .version) (s .args .in-block) (a.Commit (s .args .m)) src (s .args .out .now)
+    (judged (c .before .before .before .before) src) (c .before .before .before .before .fit .ensures)
     (c .before .before .next .given .1) (c .refused .ensures)
 
 same-length : tie.Need-same-length
 same-length c = search needs
 
 returns-2 : tie.Need-returns-2
-returns-2 c =
-    let s = c .before .before .before .before .before .before .before .before .before .before .before .before .before .before .before .before .before .before .before in
-    accept false (a.Commit (s .args .m)) [] (s .args .out .now)
-    (judged (c .before .before .before .before .before .before .before)) (c .before .before .before .before .before .before .before .fit .ensures)
+returns-2 c src =
+    let s = c .before .before .before .before .before .before .before .before .before .before .before .before .before .before .before .before .before .before .before .before in
+    accept (s .args .version) (s .args .in-block) (a.Commit (s .args .m)) src (s .args .out .now)
+    (judged (c .before .before .before .before .before .before .before) src) (c .before .before .before .before .before .before .before .fit .ensures)
     (c .before .before .before .before .before .next2 .given .1) (c .before .before .store-commit .ensures)
 
 pub write-commit-spec : {M : Type 1} → statement M
 write-commit-spec =
     tie.close
     (tie.spec
+    open-requires
     cast-judge-number
     judge-number-requires
     advance-requires

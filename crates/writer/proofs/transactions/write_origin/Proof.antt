@@ -1,23 +1,26 @@
-use mathlib.Core.Bool.{false}
 use mathlib.Core.Path.{_≡_}
 use borrow.Author.Needs.{needs}
-use Rattle.wire.specs.declared.Cursor.the-variants.{At}
-use Rattle.message.specs.Pieces.{messagePieces, steps}
+use Rattle.message.specs.Kinds.{numbered}
+use Rattle.message.specs.Pieces.{messageEnd}
 use Rattle.message.specs.declared.Message.the-variants as a
-use Rattle.writer.proofs.Whole.{lettered, refuse, has-room, accept}
+use Rattle.writer.proofs.Whole.{refuse, has-room, accept}
 use Rattle.writer.proofs.transactions.write_origin.Statement.{statement}
 use Rattle.writer.proofs.transactions.write_origin.Tie as tie
 
 -- the judgement of the fields
-judged : (c : tie.After-fit) → (let s = c .before .before .before .before .before .before .before .before in c .before .advance2 .result ≡ steps (messagePieces false (a.Origin (s .args .m)) (s .args .source .now)) (At 0))
+judged : (c : tie.After-fit) → (let s = c .before .before .before .before .before .before .before .before .before in c .before .advance2 .result ≡ messageEnd (s .args .version) (s .args .in-block) (a.Origin (s .args .m)) (s .args .source .now))
+unfolding numbered
 judged c =
     rw (
       c .before .advance2 .ensures,
       c .before .before .before .advance .ensures,
       c .before .before .judge-text .ensures,
       c .before .before .before .before .judge-number .ensures,
-      lettered,
+      c .before .before .before .before .before .open .ensures,
     )
+
+open-requires : tie.Need-open-requires
+open-requires c κs = tt
 
 judge-number-requires : tie.Need-judge-number-requires
 judge-number-requires c κs = tt
@@ -45,14 +48,14 @@ enum-known-next-2 c = search needs
 
 store-origin-requires : tie.Need-store-origin-requires
 store-origin-requires c κs =
-    let s = c .before .before .before .before .before .before .before .before .before .before .before .before in
-    has-room false (a.Origin (s .args .m)) (s .args .source .now) (s .args .out .now)
+    let s = c .before .before .before .before .before .before .before .before .before .before .before .before .before in
+    has-room (s .args .version) (s .args .in-block) (a.Origin (s .args .m)) (s .args .source .now) (s .args .out .now)
     (judged (c .before .before .before .before)) (c .before .before .before .before .fit .ensures) (c .before .before .next2 .given .1)
 
 returns : tie.Need-returns
 returns c =
-    let s = c .before .before .before .before .before .before .before .before .before .before .before .before in
-    refuse false (a.Origin (s .args .m)) (s .args .source .now) (s .args .out .now)
+    let s = c .before .before .before .before .before .before .before .before .before .before .before .before .before in
+    refuse (s .args .version) (s .args .in-block) (a.Origin (s .args .m)) (s .args .source .now) (s .args .out .now)
     (judged (c .before .before .before .before)) (c .before .before .before .before .fit .ensures)
     (c .before .before .next .given .1) (c .refused .ensures)
 
@@ -61,8 +64,8 @@ same-length c = search needs
 
 returns-2 : tie.Need-returns-2
 returns-2 c =
-    let s = c .before .before .before .before .before .before .before .before .before .before .before .before .before .before .before in
-    accept false (a.Origin (s .args .m)) (s .args .source .now) (s .args .out .now)
+    let s = c .before .before .before .before .before .before .before .before .before .before .before .before .before .before .before .before in
+    accept (s .args .version) (s .args .in-block) (a.Origin (s .args .m)) (s .args .source .now) (s .args .out .now)
     (judged (c .before .before .before .before .before .before .before)) (c .before .before .before .before .before .before .before .fit .ensures)
     (c .before .before .before .before .before .next2 .given .1) (c .before .before .store-origin .ensures)
 
@@ -70,6 +73,7 @@ pub write-origin-spec : {M : Type 1} → statement M
 write-origin-spec =
     tie.close
     (tie.spec
+    open-requires
     judge-number-requires
     advance-requires
     judge-text-requires

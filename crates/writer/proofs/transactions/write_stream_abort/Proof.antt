@@ -1,24 +1,28 @@
-use mathlib.Core.List.{[]}
-use mathlib.Core.Bool.{false}
+use Prim.Native.Nat.{ℕ}
+use mathlib.Core.List.{List, []}
 use mathlib.Core.Path.{_≡_}
 use borrow.Author.Needs.{needs}
-use Rattle.wire.specs.declared.Cursor.the-variants.{At}
-use Rattle.message.specs.Pieces.{messagePieces, steps}
+use Rattle.message.specs.Kinds.{numbered}
+use Rattle.message.specs.Pieces.{messageEnd}
 use Rattle.message.specs.declared.Message.the-variants as a
-use Rattle.writer.proofs.Whole.{lettered, refuse, has-room, accept}
+use Rattle.writer.proofs.Whole.{refuse, has-room, accept}
 use Rattle.writer.proofs.transactions.write_stream_abort.Statement.{statement}
 use Rattle.writer.proofs.transactions.write_stream_abort.Tie as tie
 
 -- the judgement of the fields
-judged : (c : tie.After-fit) → (let s = c .before .before .before .before .before .before in c .before .advance2 .result ≡ steps (messagePieces false (a.StreamAbort (s .args .xid) (s .args .sub-xid)) []) (At 0))
-judged c =
+judged : (c : tie.After-fit) (src : List ℕ) → (let s = c .before .before .before .before .before .before .before in c .before .advance2 .result ≡ messageEnd (s .args .version) (s .args .in-block) (a.StreamAbort (s .args .xid) (s .args .sub-xid)) src)
+unfolding numbered
+judged c src =
     rw (
       c .before .advance2 .ensures,
       c .before .before .before .advance .ensures,
       c .before .before .judge-id2 .ensures,
       c .before .before .before .before .judge-id .ensures,
-      lettered,
+      c .before .before .before .before .before .open .ensures,
     )
+
+open-requires : tie.Need-open-requires
+open-requires c κs = tt
 
 judge-id-requires : tie.Need-judge-id-requires
 judge-id-requires c κs = tt
@@ -46,31 +50,32 @@ enum-known-next-2 c = search needs
 
 store-stream-abort-requires : tie.Need-store-stream-abort-requires
 store-stream-abort-requires c κs =
-    let s = c .before .before .before .before .before .before .before .before .before .before in
-    has-room false (a.StreamAbort (s .args .xid) (s .args .sub-xid)) [] (s .args .out .now)
-    (judged (c .before .before .before .before)) (c .before .before .before .before .fit .ensures) (c .before .before .next2 .given .1)
+    let s = c .before .before .before .before .before .before .before .before .before .before .before in
+    has-room (s .args .version) (s .args .in-block) (a.StreamAbort (s .args .xid) (s .args .sub-xid)) [] (s .args .out .now)
+    (judged (c .before .before .before .before) []) (c .before .before .before .before .fit .ensures) (c .before .before .next2 .given .1)
 
 returns : tie.Need-returns
-returns c =
-    let s = c .before .before .before .before .before .before .before .before .before .before in
-    refuse false (a.StreamAbort (s .args .xid) (s .args .sub-xid)) [] (s .args .out .now)
-    (judged (c .before .before .before .before)) (c .before .before .before .before .fit .ensures)
+returns c src =
+    let s = c .before .before .before .before .before .before .before .before .before .before .before in
+    refuse (s .args .version) (s .args .in-block) (a.StreamAbort (s .args .xid) (s .args .sub-xid)) src (s .args .out .now)
+    (judged (c .before .before .before .before) src) (c .before .before .before .before .fit .ensures)
     (c .before .before .next .given .1) (c .refused .ensures)
 
 same-length : tie.Need-same-length
 same-length c = search needs
 
 returns-2 : tie.Need-returns-2
-returns-2 c =
-    let s = c .before .before .before .before .before .before .before .before .before .before .before .before .before in
-    accept false (a.StreamAbort (s .args .xid) (s .args .sub-xid)) [] (s .args .out .now)
-    (judged (c .before .before .before .before .before .before .before)) (c .before .before .before .before .before .before .before .fit .ensures)
+returns-2 c src =
+    let s = c .before .before .before .before .before .before .before .before .before .before .before .before .before .before in
+    accept (s .args .version) (s .args .in-block) (a.StreamAbort (s .args .xid) (s .args .sub-xid)) src (s .args .out .now)
+    (judged (c .before .before .before .before .before .before .before) src) (c .before .before .before .before .before .before .before .fit .ensures)
     (c .before .before .before .before .before .next2 .given .1) (c .before .before .store-stream-abort .ensures)
 
 pub write-stream-abort-spec : {M : Type 1} → statement M
 write-stream-abort-spec =
     tie.close
     (tie.spec
+    open-requires
     judge-id-requires
     advance-requires
     judge-id-requires-2
