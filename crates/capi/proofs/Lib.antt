@@ -8,4 +8,3 @@ pub mod TakenBack
 pub mod Settled
 pub mod Steps
 pub mod Put
-pub mod Known

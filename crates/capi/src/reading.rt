@@ -1,16 +1,10 @@
 ghost use mathlib.Core.Path.{_≡_};
 ghost use mathlib.Core.List.{[], _∷_};
-ghost use mathlib.Core.Bool.{true};
-ghost use Prim.Native.Nat.{_≤_, _<_};
-ghost use lib.ListN.{length};
-ghost use Rattle.message.specs.Messages.{largest};
-ghost use Rattle.message.specs.Versions.{versionAllows};
 ghost use Rattle.capi.specs.Flat.{row, readFlat, readNumber, readRow};
 use crate::flat;
 use message::Message;
 use message::Read;
 use message::Version;
-use message::kind;
 use wire::Refusal;
 
 fn put_refusal(out: &mut [u64; 16], refusal: Refusal) -> u32
@@ -111,19 +105,6 @@ fn put_commit(out: &mut [u64; 16], read: Read) -> u32
     }
 }
 
-// Whether nothing is refused before the letter.
-fn has_letter(version: Version, in_block: bool, bytes: &[u8]) -> bool
-    ensures { λ r. ⌜ (r ≡ true → (versionAllows version «in_block» ≡ true) × (length (now (bytes .entry)) ≤ largest) × (0 < length (now (bytes .entry)))) ⌝ }
-{
-    if !version.allows(in_block) {
-        return false;
-    }
-    if message::LARGEST < bytes.len() {
-        return false;
-    }
-    0 < bytes.len()
-}
-
 // Reads one message. The kinds of most messages are laid straight into their row, with no enum of all kinds between.
 #[no_mangle]
 pub extern "C" fn kq_read(version: u32, in_block: u32, bytes: &[u8], out: &mut [u64; 16]) -> u32
@@ -131,15 +112,15 @@ pub extern "C" fn kq_read(version: u32, in_block: u32, bytes: &[u8], out: &mut [
 {
     let version = Version { number: version };
     let in_block = in_block != 0;
-    if !has_letter(version, in_block, bytes) {
+    if bytes.len() == 0 {
         return put(out, reader::read_message(version, in_block, bytes));
     }
-    match message::kind_of(bytes[0]) {
-        kind::INSERT => put_insert(out, reader::read_insert(bytes, in_block)),
-        kind::UPDATE => put_update(out, reader::read_update(bytes, in_block)),
-        kind::DELETE => put_delete(out, reader::read_delete(bytes, in_block)),
-        kind::BEGIN => put_begin(out, reader::read_begin(bytes)),
-        kind::COMMIT => put_commit(out, reader::read_commit(bytes)),
+    match bytes[0] {
+        b'I' => put_insert(out, reader::expecting_insert(version, in_block, bytes)),
+        b'U' => put_update(out, reader::expecting_update(version, in_block, bytes)),
+        b'D' => put_delete(out, reader::expecting_delete(version, in_block, bytes)),
+        b'B' => put_begin(out, reader::expecting_begin(version, in_block, bytes)),
+        b'C' => put_commit(out, reader::expecting_commit(version, in_block, bytes)),
         _ => put(out, reader::read_message(version, in_block, bytes)),
     }
 }

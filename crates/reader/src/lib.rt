@@ -10,18 +10,19 @@ use wire::Cursor;
 use wire::Refusal;
 
 mod changes;
+mod expecting;
 mod framing;
 mod schema;
 mod transactions;
 mod tuples;
 
-pub use changes::read_delete;
-pub use changes::read_insert;
-pub use changes::read_update;
 pub use changes::relation_oids;
+pub use expecting::expecting_begin;
+pub use expecting::expecting_commit;
+pub use expecting::expecting_delete;
+pub use expecting::expecting_insert;
+pub use expecting::expecting_update;
 pub use schema::relation_columns;
-pub use transactions::read_begin;
-pub use transactions::read_commit;
 pub use tuples::tuple_end;
 pub use tuples::tuple_end_offset;
 
