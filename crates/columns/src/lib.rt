@@ -1,6 +1,6 @@
 // Stepping through a tuple, a Relation's columns and a Truncate's OIDs: the words that it answers in, and a part of the message.
 ghost use mathlib.Core.Path.{_≡_};
-ghost use Rattle.columns.specs.Parts.{partOf};
+ghost use Rattle.columns.specs.Parts.{VeryPart};
 use wire::Cursor;
 use wire::Refusal;
 use wire::Span;
@@ -154,7 +154,7 @@ pub struct Given<'a> {
 
 // The very part of the message that a span is; the empty part where the message does not have it.
 pub fn part(message: &[u8], span: Span) -> &[u8]
-    ensures { λ r. ⌜ now r ≡ partOf (now (message .entry)) span ⌝ }
+    ensures { λ r. ⌜ VeryPart r (message .entry) span ⌝ }
 {
     let Span { start, length } = span;
     if message.len() < start {

@@ -1,6 +1,7 @@
 // A reader that holds the message and a position: its functions take it apart and call those on plain positions.
 ghost use mathlib.Core.Path.{_≡_};
-ghost use Rattle.columns.specs.Readers.{movedAt, movedTo, columnPart};
+ghost use Rattle.columns.specs.Readers.{movedAt, movedTo, spanOf};
+ghost use Rattle.columns.specs.Parts.{VeryPart};
 use crate::Column;
 use crate::ColumnReader;
 use crate::Given;
@@ -25,7 +26,7 @@ pub fn moved_at(message: &[u8], offset: usize, left: usize) -> Moved
 
 // The very part of the message that is a column's value; the empty part where it has none.
 pub fn column_part(message: &[u8], column: Column) -> &[u8]
-    ensures { λ r. ⌜ now r ≡ columnPart (now (message .entry)) column ⌝ }
+    ensures { λ r. ⌜ VeryPart r (message .entry) (spanOf column) ⌝ }
 {
     match column {
         Column::Value {
@@ -55,7 +56,7 @@ pub fn reader_at<'a>(message: &'a [u8], offset: usize, left: usize) -> ColumnRea
 // One step of the reader: the column with its part of the message. After a refusal, and when the tuple is over, it stands where it was.
 pub fn step<'s, 'a>(r: &'s mut ColumnReader<'a>) -> Given<'a>
     ensures { λ g. ⌜ (g .column ≡ movedAt (now (now (r .entry) .message)) (now (r .entry) .offset) (now (r .entry) .left) .column)
-        × (now (g .value) ≡ columnPart (now (now (r .entry) .message)) (movedAt (now (now (r .entry) .message)) (now (r .entry) .offset) (now (r .entry) .left) .column))
+        × VeryPart (g .value) (now (r .entry) .message) (spanOf (g .column))
         × (now (r .exit) ≡ movedTo (now (r .entry))) ⌝ }
 {
     let d = moved_at(r.message, r.offset, r.left);

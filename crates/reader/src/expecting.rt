@@ -8,7 +8,7 @@ use crate::transactions;
 use message::Read;
 use message::Version;
 
-// Whether nothing is refused before the letter, and this is the letter. So a kind that every version has is read.
+// Whether nothing is refused before the letter and this is the letter: then a kind that every version has is read.
 fn opens_with(version: Version, in_block: bool, bytes: &[u8], letter: u8) -> bool
     ensures { λ r. ⌜ (r ≡ true → (k : Kind) → firstVersion k ≡ 1 → letter ≡ letterOf k → readKind k «in_block» (now (bytes .entry)) ≡ readMessage version «in_block» (now (bytes .entry))) ⌝ }
 {

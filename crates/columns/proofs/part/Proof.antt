@@ -1,8 +1,9 @@
 use Prim.Native.Nat.{_+_, _-_}
-use mathlib.Core.Path.{_≡_, sym}
+use mathlib.Core.Path.{_≡_, refl}
 use native.Mathlib.Omega.{arith}
-use Rattle.columns.proofs.Parts.{part-lacking, part-there}
 use borrow.Author.Needs.{needs}
+use denote.Ref.{now}
+use Rattle.columns.proofs.Parts.{lacking, there}
 use Rattle.columns.proofs.part.Statement.{statement}
 use Rattle.columns.proofs.part.Tie as tie
 
@@ -16,7 +17,9 @@ part-result-end : tie.Need-part-result-end
 part-result-end c = search needs
 
 returns : tie.Need-returns
-returns c = sym (part-lacking _ _ (omega arith))
+returns c =
+    let w = lacking (now (c .before .before .args .message)) (c .before .before .args .span) (omega arith) in
+    record { bytes = rw w; block = refl; offset = rw w (omega arith) }
 
 sub-if2 : tie.Need-sub-if2
 sub-if2 c = search needs
@@ -31,7 +34,9 @@ part-result-end-2 : tie.Need-part-result-end-2
 part-result-end-2 c = search needs
 
 returns-2 : tie.Need-returns-2
-returns-2 c = sym (part-lacking _ _ (omega arith))
+returns-2 c =
+    let w = lacking (now (c .before .before .before .args .message)) (c .before .before .before .args .span) (omega arith) in
+    record { bytes = rw w; block = refl; offset = rw w (omega arith) }
 
 add-end : tie.Need-add-end
 add-end c = search needs
@@ -49,7 +54,8 @@ returns-3 : tie.Need-returns-3
 returns-3 c =
     let s = c .before .before .before .args .span in
     let n : s .start + s .length - s .start ≡ s .length = omega arith in
-    rw n (sym (part-there _ _ (omega arith)))
+    let w = there (now (c .before .before .before .args .message)) s (omega arith) in
+    record { bytes = rw (w, n); block = refl; offset = rw w (omega arith) }
 
 pub part-spec : {M : Type 1} → statement M
 part-spec =

@@ -1,4 +1,8 @@
+use mathlib.Core.Path.{refl}
+use native.Mathlib.Omega.{arith}
 use borrow.Author.Needs.{needs}
+use denote.Ref.{now}
+use Rattle.columns.proofs.Parts.{front}
 use Rattle.columns.proofs.readers.column_part.Statement.{statement}
 use Rattle.columns.proofs.readers.column_part.Tie as tie
 
@@ -36,10 +40,14 @@ returns : tie.Need-returns
 returns c = rw (c .before .before .column .given .1) (c .part .ensures)
 
 returns-2 : tie.Need-returns-2
-returns-2 c = rw (c .before .enum-told .given .1)
+returns-2 c =
+    let w = front (now (c .before .before .before .before .args .message)) in
+    rw (c .before .enum-told .given .1) (record { bytes = rw w; block = refl; offset = rw w (omega arith) })
 
 returns-3 : tie.Need-returns-3
-returns-3 c = rw (c .before .enum-told2 .given .1)
+returns-3 c =
+    let w = front (now (c .before .before .before .before .args .message)) in
+    rw (c .before .enum-told2 .given .1) (record { bytes = rw w; block = refl; offset = rw w (omega arith) })
 
 pub column-part-spec : {M : Type 1} → statement M
 column-part-spec =

@@ -55,7 +55,8 @@ use contract.BorrowLft.{meet-⊑-right}
 use borrow.Within.Token.{Rest, within-token, within-end}
 use denote.Memory.{partOf}
 use denote.Lend.{lends-ref, ref-back}
-use Rattle.columns.specs.Readers.{movedAt, movedTo, columnPart}
+use Rattle.columns.specs.Readers.{movedAt, movedTo, spanOf}
+use Rattle.columns.specs.Parts.{VeryPart}
 use Rattle.columns.specs.declared.Column.{Column}
 use Rattle.columns.proofs.Column as E
 use Rattle.columns.proofs.Column.Laws as E′
@@ -170,7 +171,7 @@ module _ {M : Type 1} (𝓤 : URA M) (H : Heap 𝓤) (A : Atoms 𝓤) (W : Given
   goes l ν δ d = qed W ((‵ (flft (ν ∷ κ) (PosShare·left q)) ⊛ ‵ (flft κ (PosShare·right q)) ⊛ ‵ ftrue) ∷ ‵ (owns (MutRef (named 0) (ν ∷ κ) (R κ) ∷ []) (y l δ d) (passed l)) ∷ []) ∵ join ! $ frame ! $ done !
 
   abbrev Told : ColumnReader → Pair → ColumnReader → Type 0
-  Told d p z = (p .column ≡ found d) × (p .value .now ≡ columnPart (d .message .now) (found d)) × (z ≡ movedTo d)
+  Told d p z = (p .column ≡ found d) × VeryPart (p .value) (d .message) (spanOf (p .column)) × (z ≡ movedTo d)
 
   -- the column in what `step` gave
   is-column : (p : Pair) (vs : List Val) → Is (G.the-row (β κ)) p vs → Is E.the-row (p .column) (EL.vals E.the-type E′.the-laws (p .column))

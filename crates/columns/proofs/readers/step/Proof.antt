@@ -49,9 +49,10 @@ use Rattle.columns.specs.declared.ColumnReader.{ColumnReader}
 use Rattle.columns.proofs.ColumnReader as T
 use Rattle.columns.proofs.ColumnReader.Laws as T′
 use types.Run.{store}
-use mathlib.Core.Path.{_∙_, subst}
+use mathlib.Core.Path.{subst}
 use denote.Memory.{lone}
-use Rattle.columns.specs.Readers.{movedAt, columnPart}
+use Rattle.columns.specs.Readers.{movedAt, spanOf}
+use Rattle.columns.specs.Parts.{VeryPart}
 use Rattle.columns.specs.declared.Column.{Column}
 use Rattle.columns.specs.declared.Moved.{Moved}
 use Rattle.columns.specs.declared.Given.{Given as Pair}
@@ -181,7 +182,7 @@ module _ {M : Type 1} (𝓤 : URA M) (H : Heap 𝓤) (A : Atoms 𝓤) (W : Given
   asked-part r = qed W ((‵ (flft κ′ q′) ⊛ ‵ ftrue) ∷ ‵ (owns (ShrSlice (named 0) κ′ u8 ∷ E.the-row ∷ []) (y r) (passed-on r)) ∷ []) ∵ join ! $ frame ! $ done !
 
   abbrev Said : Moved → RefT (List ℕ) → Type 0
-  Said r z = z .now ≡ columnPart (h .message .now) (r .column)
+  Said r z = VeryPart z (h .message) (spanOf (r .column))
 
   said-part : (r : Moved) (z : RefT (List ℕ)) → ent 𝓤 (ensured 𝓤 H A k.ended (k.clauses 𝓤 H A at-mem run) (κ′, tt) (y r) tt z) (fact 𝓤 (Said r z))
   said-part r z = exE 𝓤 _ (λ ws. snd∗ 𝓤 (sem 𝓤 H A (lasts k.ended (κ′, tt) (y r) ws)) (fact 𝓤 (Said r z)))
@@ -201,7 +202,7 @@ module _ {M : Type 1} (𝓤 : URA M) (H : Heap 𝓤) (A : Atoms 𝓤) (W : Given
   exits r z e e′ is =
       qed W (‵ (fobs γ (R .coded .code (after r))) ∷ ‵ (fbor κ (Body (mem R) b o γ)) ∷ ‵ (flft κ q) ∷ ‵ (Slice .own z (slice z ∷ [])) ∷ (‵ (flft κ′ q′) ⊛ ‵ ftrue) ∷ []) ∵
       suffices ! _ (ends-at 𝓤 H A f.ended stayed (f.clauses 𝓤 H A at-mem run) W (((κ, (κ′, tt)), (q, (q′, tt)), bounds, x, at), tt) (LL.val (G.the-type α) (G′.the-laws α) (pair r z)) (pair r z) (after r, tt) (tt, tt)) $
-      says ! (ap (λ (w : Moved). w .column) e, e′ ∙ ap (λ (w : Moved). columnPart (h .message .now) (w .column)) e, ap after e) $
+      says ! (ap (λ (w : Moved). w .column) e, e′, ap after e) $
       move ! (2 ∷ 4 ∷ []) $ join ! $ frame ! $ feqI ! (List Val) (vptr b o ∷ []) (vptr b o ∷ []) refl $ fjoin3 ! $ nothing ! $ move ! (1 ∷ 0 ∷ []) $ fjoin ! $ frame ! $
       nothing ! $ move ! (1 ∷ 0 ∷ []) $ fjoin ! $ owned ! E.the-row (Is E.the-row) (EL.makes E.the-type E′.the-plain 𝓤 H A) (r .column) _ is $ fjoin ! $ by ! (own-shut 𝓤 H A W (G.the-type α) (G′.the-laws α) (r .column, (z, tt)))
 
