@@ -10,3 +10,5 @@ pub mod From
 pub mod Says
 pub mod Back
 pub mod RoundTrip
+pub mod InRange
+pub mod WriteInRange

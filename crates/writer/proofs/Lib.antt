@@ -4,3 +4,4 @@ pub mod Whole
 pub mod Old
 pub mod RoundTrips
 pub mod Told
+pub mod InRange
