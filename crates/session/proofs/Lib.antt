@@ -23,3 +23,4 @@ pub mod Shapes
 pub mod Oids
 pub mod Stores
 pub mod Listings
+pub mod InRange
