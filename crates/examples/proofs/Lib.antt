@@ -1,2 +1,1 @@
-mod Bits
-mod Marked
+pub mod Marked

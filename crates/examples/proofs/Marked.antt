@@ -12,7 +12,8 @@ use Rattle.message.specs.declared.Read.the-variants as answer
 use Rattle.message.specs.Layout.{columnEnd, groupsEnd, tupleEnd, optional, xidField}
 use Rattle.message.specs.Kinds.{named}
 use Rattle.message.specs.Versions.{versionAllows, versionHas}
-use Rattle.message.specs.Messages.{refuse, readKind, readMessage}
+use Rattle.message.specs.Messages.{span, refuse, readKind, readMessage}
+use Rattle.message.specs.Encode.{partsOf}
 use Rattle.session.specs.declared.Answer.{Answer as Said}
 use Rattle.session.specs.declared.Answer.the-variants as said
 use Rattle.session.specs.History.{Given, given}
@@ -22,67 +23,89 @@ use Rattle.columns.specs.declared.Started.{Started}
 use Rattle.columns.specs.declared.Started.the-variants as started
 use Rattle.columns.specs.declared.Which.the-variants.{New}
 use Rattle.columns.specs.declared.Column.{Column}
-use Rattle.columns.specs.declared.Column.the-variants.{Value}
+use Rattle.columns.specs.declared.Column.the-variants.{Value, Over, Refused}
 use Rattle.columns.specs.declared.RelationColumn.{RelationColumn}
 use Rattle.columns.specs.declared.RelationColumn.the-variants as column
+use Rattle.columns.specs.Parts.{partOf}
 use Rattle.columns.specs.Starts.{tuplePosition, tupleStart, relationStart}
 use Rattle.columns.specs.Steps.{columnField, relationField, tupleStep, relationStep}
 
 -- what an example asks
-data Question : Type 0 where
+pub data Question : Type 0 where
   -- what bytes are at a version, inside a block or outside
   reading : ℕ → Bool → List ℕ → Question
   -- which columns its new tuple has
   tupleColumns : ℕ → Bool → List ℕ → Question
-  -- which columns a Relation has
-  relationColumns : ℕ → Bool → List ℕ → Question
+  -- which namespace, name and columns a Relation has
+  relationTexts : ℕ → Bool → List ℕ → Question
   -- what a fresh session of a version answers to messages, each tagged with its place in the list
   giving : ℕ → List (List ℕ) → Question
 
-data Answer : Type 0 where
+-- a column, and the bytes of its value or name
+pub data Holds (A : Type 0) : Type 0 where
+  holds : A → List ℕ → Holds A
+
+pub data Answer : Type 0 where
   reads : Read → Answer
-  tupleHas : List Column → Answer
-  relationHas : List RelationColumn → Answer
+  tupleHas : List (Holds Column) → Answer
+  relationHas : (namespace name : List ℕ) → List (Holds RelationColumn) → Answer
   answersAre : List Said → Answer
 
-tupleSteps : List ℕ → ℕ → Position → List Column
-tupleSteps xs zero p = []
-tupleSteps xs (suc n) p = let s = tupleStep xs p in s .column ∷ tupleSteps xs n (s .next)
+pub valueBytes : List ℕ → Column → List ℕ
+valueBytes xs (Value letter start length) = partOf xs (record { start = start; length = length })
+valueBytes xs Over = []
+valueBytes xs (Refused n o) = []
 
-relationSteps : List ℕ → ℕ → Position → List RelationColumn
+pub nameBytes : List ℕ → RelationColumn → List ℕ
+nameBytes xs (column.Column key name type modifier) = partOf xs name
+nameBytes xs column.Over = []
+nameBytes xs (column.Refused n o) = []
+
+pub tupleSteps : List ℕ → ℕ → Position → List (Holds Column)
+tupleSteps xs zero p = []
+tupleSteps xs (suc n) p = let s = tupleStep xs p in holds (s .column) (valueBytes xs (s .column)) ∷ tupleSteps xs n (s .next)
+
+pub relationSteps : List ℕ → ℕ → Position → List (Holds RelationColumn)
 relationSteps xs zero p = []
-relationSteps xs (suc n) p = let s = relationStep xs p in s .column ∷ relationSteps xs n (s .next)
+relationSteps xs (suc n) p = let s = relationStep xs p in holds (s .column) (nameBytes xs (s .column)) ∷ relationSteps xs n (s .next)
+
+-- the bytes of the text that is a part of a message's layout
+pub textBytes : List ℕ → Read → ℕ → List ℕ
+textBytes xs (answer.Message m) part = partOf xs (span (partsOf m) part)
+textBytes xs (answer.Refused r) part = []
 
 -- as many steps as are left at a start
-from : {A : Type 0} → Started → (ℕ → Position → List A) → List A
+pub from : {A : Type 0} → Started → (ℕ → Position → List A) → List A
 from (started.At p) steps = steps (p .left) p
 from (started.Refused r) steps = []
 
-read : ℕ → Bool → List ℕ → Read
+pub read : ℕ → Bool → List ℕ → Read
 read version inBlock bytes = readMessage (record { number = version }) inBlock bytes
 
-tagged : ℕ → List (List ℕ) → List Given
+pub tagged : ℕ → List (List ℕ) → List Given
 tagged n [] = []
 tagged n (xs ∷ l) = given xs n ∷ tagged (suc n) l
 
-ask : Question → Answer
+pub ask : Question → Answer
 ask (reading version inBlock bytes) = reads (read version inBlock bytes)
 ask (tupleColumns version inBlock bytes) = tupleHas (from (tupleStart New bytes (read version inBlock bytes)) (tupleSteps bytes))
-ask (relationColumns version inBlock bytes) = relationHas (from (relationStart (read version inBlock bytes)) (relationSteps bytes))
+ask (relationTexts version inBlock bytes) =
+    let r = read version inBlock bytes in
+    relationHas (textBytes bytes r 2) (textBytes bytes r 3) (from (relationStart r) (relationSteps bytes))
 ask (giving version messages) = answersAre (answers (record { number = version }) [] (tagged 0 messages))
 
-record Example : Type 0 where
-  question : Question
-  answer : Answer
+pub record Example : Type 0 where
+  pub question : Question
+  pub answer : Answer
 
-example : Question → Answer → Example
+pub example : Question → Answer → Example
 example q r = record { question = q; answer = r }
 
-is : ℕ → Bool → List ℕ → Read → Example
+pub is : ℕ → Bool → List ℕ → Read → Example
 is version inBlock bytes r = example (reading version inBlock bytes) (reads r)
 
 -- the starred examples of document 01, "Marked examples"; the number of each stands beside its rows
-table : List Example
+pub table : List Example
 table =
     -- 1
     is 1 false ([])
@@ -108,7 +131,7 @@ table =
     ∷ is 1 false (0x49 ∷ 0 ∷ 0 ∷ 0 ∷ 5 ∷ 0x4E ∷ 0 ∷ 2 ∷ 0x6E ∷ 0x74 ∷ 0 ∷ 0 ∷ 0 ∷ 1 ∷ 0x61 ∷ [])
     (answer.Message (a.Insert (record { xid = 0; relation = 5; tuple = 6 })))
     ∷ example (tupleColumns 1 false (0x49 ∷ 0 ∷ 0 ∷ 0 ∷ 5 ∷ 0x4E ∷ 0 ∷ 2 ∷ 0x6E ∷ 0x74 ∷ 0 ∷ 0 ∷ 0 ∷ 1 ∷ 0x61 ∷ []))
-    (tupleHas (Value 0x6E 0 0 ∷ Value 0x74 14 1 ∷ []))
+    (tupleHas (holds (Value 0x6E 0 0) [] ∷ holds (Value 0x74 14 1) (0x61 ∷ []) ∷ []))  -- null, then "a"
     -- 6
     ∷ is 1 false (0x49 ∷ 0 ∷ 0 ∷ 0 ∷ 5 ∷ 0x4E ∷ 0 ∷ 2 ∷ 0x6E ∷ 0x74 ∷ 0 ∷ 0 ∷ 0 ∷ 2 ∷ 0x61 ∷ [])
     (refuse 2 14)
@@ -122,8 +145,8 @@ table =
     -- 8
     ∷ is 1 false (0x52 ∷ 0 ∷ 0 ∷ 0 ∷ 5 ∷ 0 ∷ 0x74 ∷ 0 ∷ 0x64 ∷ 0 ∷ 1 ∷ 1 ∷ 0x69 ∷ 0x64 ∷ 0 ∷ 0 ∷ 0 ∷ 0 ∷ 0x17 ∷ 0xFF ∷ 0xFF ∷ 0xFF ∷ 0xFF ∷ [])
     (answer.Message (a.Relation (record { xid = 0; relation = 5; namespace = record { start = 5; length = 0 }; name = record { start = 6; length = 1 }; identity = 0x64; count = 1; columns = 11 })))
-    ∷ example (relationColumns 1 false (0x52 ∷ 0 ∷ 0 ∷ 0 ∷ 5 ∷ 0 ∷ 0x74 ∷ 0 ∷ 0x64 ∷ 0 ∷ 1 ∷ 1 ∷ 0x69 ∷ 0x64 ∷ 0 ∷ 0 ∷ 0 ∷ 0 ∷ 0x17 ∷ 0xFF ∷ 0xFF ∷ 0xFF ∷ 0xFF ∷ []))
-    (relationHas (column.Column 1 (record { start = 12; length = 2 }) 23 (negsuc 0) ∷ []))
+    ∷ example (relationTexts 1 false (0x52 ∷ 0 ∷ 0 ∷ 0 ∷ 5 ∷ 0 ∷ 0x74 ∷ 0 ∷ 0x64 ∷ 0 ∷ 1 ∷ 1 ∷ 0x69 ∷ 0x64 ∷ 0 ∷ 0 ∷ 0 ∷ 0 ∷ 0x17 ∷ 0xFF ∷ 0xFF ∷ 0xFF ∷ 0xFF ∷ []))
+    (relationHas [] (0x74 ∷ []) (holds (column.Column 1 (record { start = 12; length = 2 }) 23 (negsuc 0)) (0x69 ∷ 0x64 ∷ []) ∷ []))  -- "t", with "id"
     -- 10
     ∷ example
     (giving 2
@@ -141,6 +164,6 @@ table =
     (answersAre (said.Accepted ∷ said.Accepted ∷ said.Accepted ∷ said.Accepted ∷ said.Refused 9 0 ∷ said.Accepted ∷ said.Accepted ∷ said.Accepted ∷ said.Change 1 0x64 1 ∷ said.Refused 10 0 ∷ []))
     ∷ []
 
-marked : map (λ (e : Example). ask (e .question)) table ≡ map (λ (e : Example). e .answer) table
-unfolding ask read tagged answersBy from tupleSteps relationSteps example is table tuplePosition columnField relationField tupleStep relationStep readMessage readKind named versionAllows versionHas valueField columnEnd groupsEnd tupleEnd optional xidField be wordAt numberField letterField member textField untilZero bytesField
+pub marked : map (λ (e : Example). ask (e .question)) table ≡ map (λ (e : Example). e .answer) table
+unfolding ask read tagged answersBy from tupleSteps relationSteps valueBytes nameBytes textBytes partOf example is table tuplePosition columnField relationField tupleStep relationStep readMessage readKind named versionAllows versionHas valueField columnEnd groupsEnd tupleEnd optional xidField be wordAt numberField letterField member textField untilZero bytesField
 marked = refl

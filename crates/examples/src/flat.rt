@@ -26,15 +26,6 @@ struct List {
     values: [u64; 16],
 }
 
-// The bits of a signed number.
-pub fn bits64(v: i64) -> u64 {
-    if v < 0 {
-        0xFFFF_FFFF_FFFF_FFFF - ((-1 - v) as u64)
-    } else {
-        v as u64
-    }
-}
-
 impl List {
     fn new(letter: u8) -> Self {
         List {
@@ -65,7 +56,7 @@ impl List {
     }
 
     fn time(self, value: i64) -> Self {
-        self.number(bits64(value))
+        self.number(wire::bits64(value))
     }
 
     fn span(self, value: Span) -> Self {

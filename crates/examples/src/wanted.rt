@@ -1,5 +1,4 @@
 // What a value is to be, as numbers that a line spells or that are worked out of a pattern.
-use crate::flat;
 use crate::text;
 use values::Value;
 
@@ -83,10 +82,10 @@ pub fn is_value(value: Value, want: Want) -> bool {
     let n = bits(want);
     match value {
         Value::Bool(b) => letter == b'b' && b as u64 == n,
-        Value::Int2(v) => letter == b's' && flat::bits64(wire::wide16(v)) == n,
-        Value::Int4(v) => letter == b'i' && flat::bits64(wire::wide32(v)) == n,
-        Value::Int8(v) => letter == b'l' && flat::bits64(v) == n,
-        Value::TimestampTz(v) => letter == b'z' && flat::bits64(v) == n,
+        Value::Int2(v) => letter == b's' && wire::bits64(wire::wide16(v)) == n,
+        Value::Int4(v) => letter == b'i' && wire::bits64(wire::wide32(v)) == n,
+        Value::Int8(v) => letter == b'l' && wire::bits64(v) == n,
+        Value::TimestampTz(v) => letter == b'z' && wire::bits64(v) == n,
         Value::Float4(x) => letter == b'f' && is_float(std::num::f32_to_f64_with_nan(x), want),
         Value::Float8(x) => letter == b'd' && is_float(x, want),
         Value::Float4Nan(bits) => letter == b'F' && bits as u64 == n,

@@ -1,11 +1,11 @@
 use borrow.Author.Needs.{needs}
 use Prim.Native.Nat.{ℕ, _≤_, _<_, _-_}
 use mathlib.Core.Path.{_≡_}
+use mathlib.Core.Bool.{false≢true}
 use lib.ListN.{getD}
 use native.Mathlib.Omega.{arith}
 use borrow.Author.Tests.{eqb-true}
 use borrow.Author.Count.{below-more}
-use Rattle.examples.proofs.Bits.{never}
 use Rattle.examples.proofs.flat.same.Statement.{statement}
 use Rattle.examples.proofs.flat.same.Tie as tie
 
@@ -31,7 +31,7 @@ element-copy-out-if1-2 : tie.Need-element-copy-out-if1-2 Inv-loop μ-loop
 element-copy-out-if1-2 c = omega arith
 
 returns : tie.Need-returns Inv-loop μ-loop
-returns c = never
+returns c e = absurd (false≢true e)
 
 add-k : tie.Need-add-k Inv-loop μ-loop
 add-k c = omega arith
@@ -43,10 +43,10 @@ loop-again : tie.Need-loop-again Inv-loop μ-loop
 loop-again c = (search needs, below-more _ _ (c .before .before .before .before .loop .inv .1) (c .if1 .left))
 
 returns-2 : tie.Need-returns-2 Inv-loop μ-loop
-returns-2 c = never
+returns-2 c e = absurd (false≢true e)
 
 returns-3 : tie.Need-returns-3 Inv-loop μ-loop
-returns-3 c = never
+returns-3 c e = absurd (false≢true e)
 
 returns-4 : tie.Need-returns-4 Inv-loop μ-loop
 returns-4 c =
