@@ -1,7 +1,7 @@
 -- DEMAND 1: the refusals of reading are in range. Assumes nothing.
 use Prim.Native.Nat.{ℕ, zero, suc, _+_, _≤_}
 use mathlib.Core.List.{List, [], _∷_}
-use mathlib.Core.Bool.{Bool, true, false, not, cond, _||_}
+use mathlib.Core.Bool.{Bool, true, false, not, cond}
 use mathlib.Core.Option.{Option, none, some}
 use mathlib.Core.Path.{_≡_, refl}
 use native.Mathlib.Omega.{arith}
@@ -21,8 +21,8 @@ use Rattle.message.specs.declared.Version.{Version}
 use Rattle.message.specs.declared.Message.{Message}
 use Rattle.message.specs.declared.Read.{Read}
 use Rattle.message.specs.declared.Read.the-variants as read
-use Rattle.message.specs.Layout.{Field, Part, number, constant, letter, text, value, column, one, blockXid, groups, tuple, optionalTuple, columnLetters, mostColumns, columnEnd, readField, readGroup, times, groupsEnd, tupleEnd, Optional, optional, xidField, readPart, readFields}
-use Rattle.message.specs.Kinds.{Kind, begin, commit, origin, relation, type, insert, update, delete, truncate, message, streamStart, streamStop, streamCommit, streamAbort, layout, kindOf}
+use Rattle.message.specs.Layout.{Field, Part, number, constant, letter, text, value, column, one, blockXid, groups, tuple, optionalTuple, id, columnLetters, hasValue, mostColumns, columnCount, columnEnd, readField, readGroup, times, groupsEnd, tupleEnd, Optional, optional, xidField, readPart, readFields}
+use Rattle.message.specs.Kinds.{Kind, layout, kindOf}
 use Rattle.message.specs.Versions.{versionAllows, versionHas}
 use Rattle.message.specs.Messages.{largest, refuse, finished, settled, messageOf, readKind, readNamed, readMessage}
 
@@ -36,33 +36,9 @@ pub record InRange (last end number offset : ℕ) : Type 0 where
 abbrev pub ReadInRange : Type 0
 ReadInRange = (v : Version) (b : Bool) (xs : List ℕ) (n o : ℕ) → readMessage v b xs ≡ refuse n o → InRange 6 (length xs) n o
 
--- THE NUMBERS IN A LAYOUT
-
+-- a refusal's number
 abbrev pub Named : ℕ → Type 0
 Named n = InRange 6 0 n 0
-
-abbrev pub FieldNamed : Field → Type 0
-FieldNamed (number w low high n) = Named n
-FieldNamed (constant k) = Unit {0}
-FieldNamed (letter set) = Unit {0}
-FieldNamed text = Unit {0}
-FieldNamed value = Unit {0}
-FieldNamed column = Unit {0}
-
-abbrev pub FieldsNamed : List Field → Type 0
-FieldsNamed [] = Unit {0}
-FieldsNamed (f ∷ fs) = FieldNamed f × FieldsNamed fs
-
-abbrev pub PartNamed : Part → Type 0
-PartNamed (one f) = FieldNamed f
-PartNamed blockXid = Unit {0}
-PartNamed (groups w low high between fs) = FieldsNamed between × FieldsNamed fs
-PartNamed tuple = Unit {0}
-PartNamed (optionalTuple set) = Unit {0}
-
-abbrev pub PartsNamed : List Part → Type 0
-PartsNamed [] = Unit {0}
-PartsNamed (p ∷ ps) = PartNamed p × PartsNamed ps
 
 pub within : (n : ℕ) → 1 ≤ n → n ≤ 6 → Named n
 within n h i = record { from-one = h; to-last = i; inside = omega arith }
@@ -75,22 +51,6 @@ four = within 4 (omega arith) (omega arith)
 
 pub six : Named 6
 six = within 6 (omega arith) (omega arith)
-
-pub layout-named : (k : Kind) → PartsNamed (layout k)
-layout-named begin = (four, (four, (four, tt)))
-layout-named commit = (four, (four, (four, (four, tt))))
-layout-named origin = (four, (tt, tt))
-layout-named relation = (tt, (four, (tt, (tt, (tt, ((tt, (four, (tt, (four, (four, tt))))), tt))))))
-layout-named type = (tt, (four, (tt, (tt, tt))))
-layout-named insert = (tt, (four, (tt, (tt, tt))))
-layout-named update = (tt, (four, (tt, (tt, (tt, tt)))))
-layout-named delete = (tt, (four, (tt, (tt, tt))))
-layout-named truncate = (tt, (((four, tt), (four, tt)), tt))
-layout-named message = (tt, (four, (four, (tt, (tt, tt)))))
-layout-named streamStart = (four, (four, tt))
-layout-named streamStop = tt
-layout-named streamCommit = (four, (four, (four, (four, (four, tt)))))
-layout-named streamAbort = (four, (four, tt))
 
 -- THE FIELDS
 
@@ -145,46 +105,46 @@ module _ (xs : List ℕ) (end : ℕ) (inside : length xs ≤ end) where
 
   column-fine : (c : Cursor) → Fine end c → Fine end (columnEnd xs c)
   unfolding columnEnd
-  column-fine c f = let k = letterField columnLetters xs c in go (eqb (k .value) 0x74 || eqb (k .value) 0x62) (k .next) (letter-fine columnLetters c f)
+  column-fine c f = let k = letterField columnLetters xs c in go (hasValue (k .value)) (k .next) (letter-fine columnLetters c f)
     where
       go : (t : Bool) (d : Cursor) → Fine end d → Fine end (cond t (valueField xs d .next) d)
       go true d g = value-fine d g
       go false d g = g
 
-  field-fine : (f : Field) → FieldNamed f → (c : Cursor) → Fine end c → Fine end (readField f xs c .next)
-  field-fine (number w low high n) i c f = number-fine w low high n i c f
-  field-fine (constant k) i c f = letter-fine (k ∷ []) c f
-  field-fine (letter set) i c f = letter-fine set c f
-  field-fine text i c f = text-fine c f
-  field-fine value i c f = value-fine c f
-  field-fine column i c f = column-fine c f
+  field-fine : (f : Field) (c : Cursor) → Fine end c → Fine end (readField f xs c .next)
+  field-fine (number w low high) c f = number-fine w low high 4 four c f
+  field-fine (constant k) c f = letter-fine (k ∷ []) c f
+  field-fine (letter set) c f = letter-fine set c f
+  field-fine text c f = text-fine c f
+  field-fine value c f = value-fine c f
+  field-fine column c f = column-fine c f
 
-  group-fine : (fs : List Field) → FieldsNamed fs → (c : Cursor) → Fine end c → Fine end (readGroup fs xs c .next)
-  group-fine [] i c f = f
-  group-fine (g ∷ fs) i c f = group-fine fs (i .1) (readField g xs c .next) (field-fine g (i .0) c f)
+  group-fine : (fs : List Field) (c : Cursor) → Fine end c → Fine end (readGroup fs xs c .next)
+  group-fine [] c f = f
+  group-fine (g ∷ fs) c f = group-fine fs (readField g xs c .next) (field-fine g c f)
 
   times-fine : (g : Cursor → Cursor) → ((c : Cursor) → Fine end c → Fine end (g c)) → (n : ℕ) (c : Cursor) → Fine end c → Fine end (times n g c)
   times-fine g keeps zero c f = f
   times-fine g keeps (suc n) c f = times-fine g keeps n (g c) (keeps c f)
 
-  groups-fine : (fs : List Field) → FieldsNamed fs → (n : ℕ) (c : Cursor) → Fine end c → Fine end (groupsEnd fs xs n c)
+  groups-fine : (fs : List Field) (n : ℕ) (c : Cursor) → Fine end c → Fine end (groupsEnd fs xs n c)
   unfolding groupsEnd
-  groups-fine fs i n c f = times-fine (λ (d : Cursor). readGroup fs xs d .next) (group-fine fs i) n c f
+  groups-fine fs n c f = times-fine (λ (d : Cursor). readGroup fs xs d .next) (group-fine fs) n c f
 
   tuple-fine : (c : Cursor) → Fine end c → Fine end (tupleEnd xs c)
   unfolding tupleEnd
-  tuple-fine c f = let n = numberField 2 0 mostColumns 6 xs c in groups-fine (column ∷ []) (tt, tt) (n .value) (n .next) (number-fine 2 0 mostColumns 6 six c f)
+  tuple-fine c f = let n = columnCount xs c in groups-fine (column ∷ []) (n .value) (n .next) (number-fine 2 0 mostColumns 6 six c f)
 
-  part-fine : (b : Bool) (p : Part) → PartNamed p → (c : Cursor) → Fine end c → Fine end (readPart b p xs c .next)
+  part-fine : (b : Bool) (p : Part) (c : Cursor) → Fine end c → Fine end (readPart b p xs c .next)
   unfolding xidField optional
-  part-fine b (one g) i c f = field-fine g i c f
-  part-fine true blockXid i c f = number-fine 4 1 0xFFFFFFFF 4 four c f
-  part-fine false blockXid i c f = f
-  part-fine b (groups w low high between fs) i c f =
+  part-fine b (one g) c f = field-fine g c f
+  part-fine true blockXid c f = field-fine id c f
+  part-fine false blockXid c f = f
+  part-fine b (groups w low high between fs) c f =
       let n = numberField w low high 6 xs c in
-      groups-fine fs (i .1) (n .value) (readGroup between xs (n .next) .next) (group-fine between (i .0) (n .next) (number-fine w low high 6 six c f))
-  part-fine b tuple i c f = tuple-fine c f
-  part-fine b (optionalTuple set) i c f = go (eqb (letterField set xs c .value) 0)
+      groups-fine fs (n .value) (readGroup between xs (n .next) .next) (group-fine between (n .next) (number-fine w low high 6 six c f))
+  part-fine b tuple c f = tuple-fine c f
+  part-fine b (optionalTuple set) c f = go (eqb (letterField set xs c .value) 0)
     where
       go : (t : Bool)
           → Fine end
@@ -194,9 +154,9 @@ module _ (xs : List ℕ) (end : ℕ) (inside : length xs ≤ end) where
       go true = f
       go false = tuple-fine (letterField set xs c .next) (letter-fine set c f)
 
-  fields-fine : (b : Bool) (ps : List Part) → PartsNamed ps → (c : Cursor) → Fine end c → Fine end (readFields b ps xs c .next)
-  fields-fine b [] i c f = f
-  fields-fine b (p ∷ ps) i c f = fields-fine b ps (i .1) (readPart b p xs c .next) (part-fine b p (i .0) c f)
+  fields-fine : (b : Bool) (ps : List Part) (c : Cursor) → Fine end c → Fine end (readFields b ps xs c .next)
+  fields-fine b [] c f = f
+  fields-fine b (p ∷ ps) c f = fields-fine b ps (readPart b p xs c .next) (part-fine b p c f)
 
 -- what is read
 module _ (xs : List ℕ) where
@@ -220,7 +180,7 @@ module _ (xs : List ℕ) where
   named-told b none h = first-told 3 (omega arith) (omega arith)
   named-told b (some k) h =
       let r = readFields b (layout k) xs (At 1) in
-      settled-told (r .next) (messageOf k (r .parts)) (fields-fine xs (length xs) (omega arith) b (layout k) (layout-named k) (At 1) h)
+      settled-told (r .next) (messageOf k (r .parts)) (fields-fine xs (length xs) (omega arith) b (layout k) (At 1) h)
 
   read-told : (v : Version) (b : Bool) → Told (readMessage v b xs)
   unfolding readMessage

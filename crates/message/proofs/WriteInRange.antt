@@ -1,7 +1,7 @@
 -- DEMAND 1: the refusals of writing are in range. Assumes nothing.
 use Prim.Native.Nat.{ℕ, zero, suc, _+_, _-_, _≤_}
 use mathlib.Core.List.{List, [], _∷_, _++_}
-use mathlib.Core.Bool.{Bool, true, false, not, cond, _||_}
+use mathlib.Core.Bool.{Bool, true, false, not, cond}
 use mathlib.Core.Option.{some}
 use mathlib.Core.Path.{_≡_, refl}
 use native.Mathlib.Omega.{arith}
@@ -13,13 +13,13 @@ use Rattle.wire.specs.declared.Cursor.the-variants.{At, Refused}
 use Rattle.wire.specs.Fields.{numberField, letterField, textField, bytesField, inRange, member}
 use Rattle.message.specs.declared.Version.{Version}
 use Rattle.message.specs.declared.Message.{Message}
-use Rattle.message.specs.Layout.{Field, Part, number, constant, letter, text, value, column, one, blockXid, groups, tuple, optionalTuple, columnLetters, mostColumns}
+use Rattle.message.specs.Layout.{Field, Part, number, constant, letter, text, value, column, one, blockXid, groups, tuple, optionalTuple, id, columnLetters, hasValue, mostColumns, columnCount}
 use Rattle.message.specs.Kinds.{layout, letterOf}
 use Rattle.message.specs.Versions.{versionAllows, versionHas}
 use Rattle.message.specs.Messages.{largest}
 use Rattle.message.specs.Encode.{digits, cut, kindOfMessage, partsOf}
-use Rattle.message.specs.Write.{Writing, bytes, refused, soFar, good, bad, Copy, copy, copied, copyValue, copyColumn, copyField, copyGroup, copyGroups, copyTuple, writeNumber, writeLetter, writeText, writeField, arity, arities, writeGroup, writePart, writeFields, writeMessage}
-use Rattle.message.proofs.InRange.{InRange, Named, FieldNamed, FieldsNamed, PartNamed, PartsNamed, within, two, four, six, layout-named, Fine, at, number-fine, letter-fine, text-fine, bytes-fine}
+use Rattle.message.specs.Write.{Writing, bytes, refused, soFar, good, bad, Copy, copy, copied, copyValue, copyColumn, copyField, copyGroup, copyGroups, copyTuple, writeNumber, writeLetter, writeText, writeValue, writeField, arity, arities, writeGroup, writePart, writeFields, writeMessage}
+use Rattle.message.proofs.InRange.{InRange, Named, within, two, four, six, Fine, at, number-fine, letter-fine, text-fine, bytes-fine}
 
 -- WRITING any message with any source, under any version: 1 to 6, at most where the largest message ends
 abbrev pub WriteInRange : Type 0
@@ -74,32 +74,32 @@ module _ (src : List ℕ) where
       copy-bytes (l .value) (copied src (l .next) c) (copy-number 4 0 0x7FFFFFFF 4 four c k)
 
   copy-column : (c : Copy) → Kept (c .to) → Kept (copyColumn src c .to)
-  copy-column c k = let l = letterField columnLetters src (At (c .from)) in go (eqb (l .value) 0x74 || eqb (l .value) 0x62) (copied src (l .next) c) (copy-letter columnLetters c k)
+  copy-column c k = let l = letterField columnLetters src (At (c .from)) in go (hasValue (l .value)) (copied src (l .next) c) (copy-letter columnLetters c k)
     where
       go : (t : Bool) (d : Copy) → Kept (d .to) → Kept (cond t (copyValue src d) d .to)
       go true d k = copy-value d k
       go false d k = k
 
-  copy-field : (f : Field) → FieldNamed f → (c : Copy) → Kept (c .to) → Kept (copyField f src c .to)
-  copy-field (number w low high n) i c k = copy-number w low high n i c k
-  copy-field (constant l) i c k = copy-letter (l ∷ []) c k
-  copy-field (letter set) i c k = copy-letter set c k
-  copy-field text i c k = copy-text c k
-  copy-field value i c k = copy-value c k
-  copy-field column i c k = copy-column c k
+  copy-field : (f : Field) (c : Copy) → Kept (c .to) → Kept (copyField f src c .to)
+  copy-field (number w low high) c k = copy-number w low high 4 four c k
+  copy-field (constant l) c k = copy-letter (l ∷ []) c k
+  copy-field (letter set) c k = copy-letter set c k
+  copy-field text c k = copy-text c k
+  copy-field value c k = copy-value c k
+  copy-field column c k = copy-column c k
 
-  copy-group : (fs : List Field) → FieldsNamed fs → (c : Copy) → Kept (c .to) → Kept (copyGroup fs src c .to)
-  copy-group [] i c k = k
-  copy-group (f ∷ fs) i c k = copy-group fs (i .1) (copyField f src c) (copy-field f (i .0) c k)
+  copy-group : (fs : List Field) (c : Copy) → Kept (c .to) → Kept (copyGroup fs src c .to)
+  copy-group [] c k = k
+  copy-group (f ∷ fs) c k = copy-group fs (copyField f src c) (copy-field f c k)
 
-  copy-groups : (fs : List Field) → FieldsNamed fs → (n : ℕ) (c : Copy) → Kept (c .to) → Kept (copyGroups n fs src c .to)
-  copy-groups fs i zero c k = k
-  copy-groups fs i (suc n) c k = copy-groups fs i n (copyGroup fs src c) (copy-group fs i c k)
+  copy-groups : (fs : List Field) (n : ℕ) (c : Copy) → Kept (c .to) → Kept (copyGroups n fs src c .to)
+  copy-groups fs zero c k = k
+  copy-groups fs (suc n) c k = copy-groups fs n (copyGroup fs src c) (copy-group fs c k)
 
   copy-tuple : (c : Copy) → Kept (c .to) → Kept (copyTuple src c .to)
   copy-tuple c k =
-      let n = numberField 2 0 mostColumns 6 src (At (c .from)) in
-      copy-groups (column ∷ []) (tt, tt) (n .value) (copied src (n .next) c) (copy-number 2 0 mostColumns 6 six c k)
+      let n = columnCount src (At (c .from)) in
+      copy-groups (column ∷ []) (n .value) (copied src (n .next) c) (copy-number 2 0 mostColumns 6 six c k)
 
   write-text : (start n : ℕ) (d : Writing) → Kept d → Kept (writeText src start n d)
   write-text start n d k = go (leb (start + n) (length src)) (member (cut src start n) 0)
@@ -109,43 +109,48 @@ module _ (src : List ℕ) where
       go true false = good-kept (cut src start n ++ (0 ∷ [])) d k
       go false u = bad-kept 2 two d k
 
-  write-field : (f : Field) → FieldNamed f → (v : List ℕ) (d : Writing) → Kept d → Kept (writeField f src v d)
-  write-field (number w low high n) i v d k = test-kept (inRange low high (getD v 0 0)) (digits w (getD v 0 0)) n i d k
-  write-field (constant l) i v d k = good-kept (l ∷ []) d k
-  write-field (letter set) i v d k = test-kept (member set (getD v 0 0)) (getD v 0 0 ∷ []) 4 four d k
-  write-field text i v d k = write-text (getD v 0 0) (getD v 1 0) d k
-  write-field value i v d k =
-      let n = digits 4 (getD v 1 0) in
-      test-kept (leb (getD v 0 0 + getD v 1 0) (length src)) (cut src (getD v 0 0) (getD v 1 0)) 2 two (good n d) (good-kept n d k)
-  write-field column i v d k = copy-column (copy (getD v 0 0) d) k
+  write-value : (start n : ℕ) (d : Writing) → Kept d → Kept (writeValue src start n d)
+  write-value start n d k = test-kept (leb (start + n) (length src)) (cut src start n) 2 two (good (digits 4 n) d) (good-kept (digits 4 n) d k)
 
-  write-group : (fs : List Field) → FieldsNamed fs → (v : List ℕ) (d : Writing) → Kept d → Kept (writeGroup fs src v d)
-  write-group [] i v d k = k
-  write-group (f ∷ fs) i v d k = write-group fs (i .1) (drop (arity f) v) (writeField f src (take (arity f) v) d) (write-field f (i .0) (take (arity f) v) d k)
+  write-field : (f : Field) (v : List ℕ) (d : Writing) → Kept d → Kept (writeField f src v d)
+  write-field (number w low high) v d k = test-kept (inRange low high (getD v 0 0)) (digits w (getD v 0 0)) 4 four d k
+  write-field (constant l) v d k = good-kept (l ∷ []) d k
+  write-field (letter set) v d k = test-kept (member set (getD v 0 0)) (getD v 0 0 ∷ []) 4 four d k
+  write-field text v d k = write-text (getD v 0 0) (getD v 1 0) d k
+  write-field value v d k = write-value (getD v 0 0) (getD v 1 0) d k
+  write-field column v d k = go (hasValue (getD v 0 0)) (writeLetter columnLetters (getD v 0 0) d) (test-kept (member columnLetters (getD v 0 0)) (getD v 0 0 ∷ []) 4 four d k)
+    where
+      go : (t : Bool) (e : Writing) → Kept e → Kept (cond t (writeValue src (getD v 1 0) (getD v 2 0) e) e)
+      go true e k = write-value (getD v 1 0) (getD v 2 0) e k
+      go false e k = k
 
-  write-part : (b : Bool) (p : Part) → PartNamed p → (v : List ℕ) (d : Writing) → Kept d → Kept (writePart b p src v d)
-  write-part b (one f) i v d k = write-field f i v d k
-  write-part true blockXid i v d k = test-kept (inRange 1 0xFFFFFFFF (getD v 0 0)) (digits 4 (getD v 0 0)) 4 four d k
-  write-part false blockXid i v d k = go (eqb (getD v 0 0) 0)
+  write-group : (fs : List Field) (v : List ℕ) (d : Writing) → Kept d → Kept (writeGroup fs src v d)
+  write-group [] v d k = k
+  write-group (f ∷ fs) v d k = write-group fs (drop (arity f) v) (writeField f src (take (arity f) v) d) (write-field f (take (arity f) v) d k)
+
+  write-part : (b : Bool) (p : Part) (v : List ℕ) (d : Writing) → Kept d → Kept (writePart b p src v d)
+  write-part b (one f) v d k = write-field f v d k
+  write-part true blockXid v d k = write-field id v d k
+  write-part false blockXid v d k = go (eqb (getD v 0 0) 0)
     where
       go : (t : Bool) → Kept (cond t d (bad 4 d))
       go true = k
       go false = bad-kept 4 four d k
-  write-part b (groups w low high between fs) i v d k =
+  write-part b (groups w low high between fs) v d k =
       let n = getD v 0 0 in
       let c = writeNumber w low high 6 n d in
-      copy-groups fs (i .1) n (copy (getD (drop 1 v) (arities between) 0) (writeGroup between src (drop 1 v) c))
-      (write-group between (i .0) (drop 1 v) c (test-kept (inRange low high n) (digits w n) 6 six d k))
-  write-part b tuple i v d k = copy-tuple (copy (getD v 0 0) d) k
-  write-part b (optionalTuple set) i v d k = go (eqb (getD v 0 0) 0)
+      copy-groups fs n (copy (getD (drop 1 v) (arities between) 0) (writeGroup between src (drop 1 v) c))
+      (write-group between (drop 1 v) c (test-kept (inRange low high n) (digits w n) 6 six d k))
+  write-part b tuple v d k = copy-tuple (copy (getD v 0 0) d) k
+  write-part b (optionalTuple set) v d k = go (eqb (getD v 0 0) 0)
     where
       go : (t : Bool) → Kept (cond t d (copyTuple src (copy (getD v 1 0) (writeLetter set (getD v 0 0) d)) .to))
       go true = k
       go false = copy-tuple (copy (getD v 1 0) (writeLetter set (getD v 0 0) d)) (test-kept (member set (getD v 0 0)) (getD v 0 0 ∷ []) 4 four d k)
 
-  write-fields : (b : Bool) (ps : List Part) → PartsNamed ps → (vs : List (List ℕ)) (d : Writing) → Kept d → Kept (writeFields b ps src vs d)
-  write-fields b [] i vs d k = k
-  write-fields b (p ∷ ps) i vs d k = write-fields b ps (i .1) (drop 1 vs) (writePart b p src (getD vs 0 []) d) (write-part b p (i .0) (getD vs 0 []) d k)
+  write-fields : (b : Bool) (ps : List Part) (vs : List (List ℕ)) (d : Writing) → Kept d → Kept (writeFields b ps src vs d)
+  write-fields b [] vs d k = k
+  write-fields b (p ∷ ps) vs d k = write-fields b ps (drop 1 vs) (writePart b p src (getD vs 0 []) d) (write-part b p (getD vs 0 []) d k)
 
   write-kept : (v : Version) (b : Bool) (m : Message) → Kept (writeMessage v b m src)
   unfolding writeMessage
@@ -156,7 +161,7 @@ module _ (src : List ℕ) where
       go false true = at (within 3 (omega arith) (omega arith)) (omega arith)
       go false false =
           let k = kindOfMessage m in
-          write-fields b (layout k) (layout-named k) (partsOf m) (good (letterOf k ∷ []) (bytes [])) (so-far-kept (letterOf k ∷ []))
+          write-fields b (layout k) (partsOf m) (good (letterOf k ∷ []) (bytes [])) (so-far-kept (letterOf k ∷ []))
 
 pub write-in-range : WriteInRange
 write-in-range v b m src n o e = rw e at (write-kept src v b m)
