@@ -10,7 +10,6 @@ ghost use Rattle.message.specs.Pieces.{messagePieces, bytesOf};
 ghost use Rattle.message.specs.Write.{writeMessage};
 ghost use Rattle.writer.specs.Answer.{Settles};
 ghost use Rattle.writer.specs.Store.{Stored, oldEnd};
-use crate::MAX64;
 use crate::Written;
 use crate::judging;
 use crate::laying;
@@ -24,8 +23,6 @@ use message::kind;
 use wire::Cursor;
 use wire::Refusal;
 use wire::Span;
-
-const MOST_RELATIONS: u64 = 256;
 
 fn store_insert(out: &mut [u8], m: Insert, source: &[u8], in_block: bool, end: Cursor)
     requires { ⌜ (end ≡ tupleEnd (now source) (At (m .tuple))) × (length (bytesOf (messagePieces «in_block» (a.Insert m) (now source))) ≤ length (now out)) ⌝ }
@@ -217,7 +214,13 @@ pub fn write_truncate(
     let next = judging::advance(
         next,
         0,
-        judging::judge_number(4, 1, MOST_RELATIONS, Refusal::RANGE, count as u64),
+        judging::judge_number(
+            4,
+            1,
+            message::MOST_RELATIONS as u64,
+            Refusal::RANGE,
+            count as u64,
+        ),
     );
     let next = judging::advance(
         next,
@@ -282,7 +285,7 @@ pub fn write_logical_message(
     let next = judging::advance(
         next,
         0,
-        judging::judge_number(8, 0, MAX64, Refusal::FIELD, lsn),
+        judging::judge_number(8, 0, u64::MAX, Refusal::FIELD, lsn),
     );
     let next = judging::advance(next, 0, judging::judge_text(source, prefix));
     let next = judging::advance(next, 0, Cursor::At(4));

@@ -7,9 +7,8 @@ ghost use Rattle.wire.specs.Fields.{inRange, member};
 ghost use Rattle.message.specs.Layout.{tupleEnd};
 ghost use Rattle.message.specs.Encode.{cut};
 ghost use Rattle.message.specs.Kinds.{kindNumbered};
-ghost use Rattle.message.specs.Pieces.{opened, placed, advanced, tested, textJudgement, xidJudgement};
+ghost use Rattle.message.specs.Pieces.{opened, placed, advanced, tested, idJudgement, textJudgement, xidJudgement};
 ghost use Rattle.writer.specs.Store.{roomFor, oldEnd, oldAdvanced};
-use crate::MAX32;
 use crate::Written;
 use message::OldTuple;
 use message::Version;
@@ -107,9 +106,9 @@ pub fn judge_number(width: usize, low: u64, high: u64, refusal: u8, value: u64) 
 
 // An id that is not 0.
 pub fn judge_id(value: u32) -> Cursor
-    ensures { λ r. ⌜ r ≡ tested (inRange 1 0xFFFFFFFF value) 4 4 ⌝ }
+    ensures { λ r. ⌜ r ≡ idJudgement value ⌝ }
 {
-    judge_number(4, 1, MAX32, Refusal::FIELD, value as u64)
+    judge_number(4, 1, u32::MAX as u64, Refusal::FIELD, value as u64)
 }
 
 pub fn judge_letter(set: &[u8], letter: u8) -> Cursor

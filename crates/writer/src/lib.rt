@@ -27,10 +27,6 @@ pub use transactions::write_stream_commit;
 pub use transactions::write_stream_start;
 pub use transactions::write_stream_stop;
 
-const MAX32: u64 = 0xFFFF_FFFF;
-
-const MAX64: u64 = 0xFFFF_FFFF_FFFF_FFFF;
-
 // What writing gives: the length of the message that was written, or why it was not.
 pub enum Written {
     Length(usize),

@@ -10,7 +10,6 @@ ghost use Rattle.message.specs.Write.{writeMessage};
 ghost use Rattle.message.specs.Pieces.{messagePieces, bytesOf};
 ghost use Rattle.writer.specs.Answer.{Settles};
 ghost use Rattle.writer.specs.Store.{Stored};
-use crate::MAX32;
 use crate::Written;
 use crate::judging;
 use crate::laying;
@@ -20,8 +19,6 @@ use message::Version;
 use message::kind;
 use wire::Cursor;
 use wire::Refusal;
-
-const MOST_COLUMNS: u64 = 1600;
 
 fn store_relation(out: &mut [u8], m: Relation, source: &[u8], in_block: bool, end: Cursor)
     requires { ⌜ (end ≡ groupsEnd columnFields (now source) (m .count) (At (m .columns))) × (length (bytesOf (messagePieces «in_block» (a.Relation m) (now source))) ≤ length (now out)) ⌝ }
@@ -74,7 +71,13 @@ pub fn write_relation(
     let next = judging::advance(
         next,
         0,
-        judging::judge_number(2, 0, MOST_COLUMNS, Refusal::RANGE, count as u64),
+        judging::judge_number(
+            2,
+            0,
+            message::MOST_COLUMNS as u64,
+            Refusal::RANGE,
+            count as u64,
+        ),
     );
     let next = judging::advance(next, columns, end);
     let next = judging::fit(next, out.len());
@@ -124,7 +127,7 @@ pub fn write_type(
     let next = judging::advance(
         next,
         0,
-        judging::judge_number(4, 0, MAX32, Refusal::FIELD, oid as u64),
+        judging::judge_number(4, 0, u32::MAX as u64, Refusal::FIELD, oid as u64),
     );
     let next = judging::advance(next, 0, judging::judge_text(source, namespace));
     let next = judging::advance(next, 0, judging::judge_text(source, name));

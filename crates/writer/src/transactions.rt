@@ -8,7 +8,6 @@ ghost use Rattle.message.specs.Write.{writeMessage};
 ghost use Rattle.message.specs.Pieces.{messagePieces, bytesOf};
 ghost use Rattle.writer.specs.Answer.{Settles};
 ghost use Rattle.writer.specs.Store.{Stored};
-use crate::MAX64;
 use crate::Written;
 use crate::judging;
 use crate::laying;
@@ -48,12 +47,12 @@ pub fn write_begin(version: Version, in_block: bool, m: Begin, out: &mut [u8]) -
     let next = judging::advance(
         next,
         0,
-        judging::judge_number(8, 0, MAX64, Refusal::FIELD, final_lsn),
+        judging::judge_number(8, 0, u64::MAX, Refusal::FIELD, final_lsn),
     );
     let next = judging::advance(
         next,
         0,
-        judging::judge_number(8, 0, MAX64, Refusal::FIELD, wire::bits64(time)),
+        judging::judge_number(8, 0, u64::MAX, Refusal::FIELD, wire::bits64(time)),
     );
     let next = judging::advance(next, 0, judging::judge_id(xid));
     let next = judging::fit(next, out.len());
@@ -101,17 +100,17 @@ pub fn write_commit(version: Version, in_block: bool, m: Commit, out: &mut [u8])
     let next = judging::advance(
         next,
         0,
-        judging::judge_number(8, 0, MAX64, Refusal::FIELD, commit_lsn),
+        judging::judge_number(8, 0, u64::MAX, Refusal::FIELD, commit_lsn),
     );
     let next = judging::advance(
         next,
         0,
-        judging::judge_number(8, 0, MAX64, Refusal::FIELD, end_lsn),
+        judging::judge_number(8, 0, u64::MAX, Refusal::FIELD, end_lsn),
     );
     let next = judging::advance(
         next,
         0,
-        judging::judge_number(8, 0, MAX64, Refusal::FIELD, wire::bits64(time)),
+        judging::judge_number(8, 0, u64::MAX, Refusal::FIELD, wire::bits64(time)),
     );
     let next = judging::fit(next, out.len());
     match next {
@@ -147,7 +146,7 @@ pub fn write_origin(
     let next = judging::advance(
         next,
         0,
-        judging::judge_number(8, 0, MAX64, Refusal::FIELD, lsn),
+        judging::judge_number(8, 0, u64::MAX, Refusal::FIELD, lsn),
     );
     let next = judging::advance(next, 0, judging::judge_text(source, name));
     let next = judging::fit(next, out.len());
@@ -253,17 +252,17 @@ pub fn write_stream_commit(
     let next = judging::advance(
         next,
         0,
-        judging::judge_number(8, 0, MAX64, Refusal::FIELD, commit_lsn),
+        judging::judge_number(8, 0, u64::MAX, Refusal::FIELD, commit_lsn),
     );
     let next = judging::advance(
         next,
         0,
-        judging::judge_number(8, 0, MAX64, Refusal::FIELD, end_lsn),
+        judging::judge_number(8, 0, u64::MAX, Refusal::FIELD, end_lsn),
     );
     let next = judging::advance(
         next,
         0,
-        judging::judge_number(8, 0, MAX64, Refusal::FIELD, wire::bits64(time)),
+        judging::judge_number(8, 0, u64::MAX, Refusal::FIELD, wire::bits64(time)),
     );
     let next = judging::fit(next, out.len());
     match next {

@@ -38,14 +38,17 @@ advance-requires c κs = tt
 cast-judge-number : tie.Need-cast-judge-number
 cast-judge-number c = search needs
 
+cast-judge-number-2 : tie.Need-cast-judge-number-2
+cast-judge-number-2 c = search needs
+
 judge-number-requires : tie.Need-judge-number-requires
 judge-number-requires c κs = tt
 
 advance-requires-2 : tie.Need-advance-requires-2
 advance-requires-2 c κs = tt
 
-cast-judge-number-2 : tie.Need-cast-judge-number-2
-cast-judge-number-2 c = search needs
+cast-judge-number-3 : tie.Need-cast-judge-number-3
+cast-judge-number-3 c = search needs
 
 judge-number-requires-2 : tie.Need-judge-number-requires-2
 judge-number-requires-2 c κs = tt
@@ -102,9 +105,10 @@ write-truncate-spec =
     judge-xid-requires
     advance-requires
     cast-judge-number
+    cast-judge-number-2
     judge-number-requires
     advance-requires-2
-    cast-judge-number-2
+    cast-judge-number-3
     judge-number-requires-2
     advance-requires-3
     advance-requires-4

@@ -74,7 +74,10 @@ advance-requires-5 : tie.Need-advance-requires-5
 advance-requires-5 c κs = tt
 
 cast-judge-number : tie.Need-cast-judge-number
-cast-judge-number c =
+cast-judge-number c = search needs
+
+cast-judge-number-2 : tie.Need-cast-judge-number-2
+cast-judge-number-2 c =
     count-fits (c .before .before .before .before .before .before .before .before .before .before .before .before .before .before .before .before .before)
 
 judge-number-requires : tie.Need-judge-number-requires
@@ -141,6 +144,7 @@ write-relation-spec =
     judge-letter-requires
     advance-requires-5
     cast-judge-number
+    cast-judge-number-2
     judge-number-requires
     advance-requires-6
     advance-requires-7

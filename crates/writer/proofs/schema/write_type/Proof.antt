@@ -35,6 +35,9 @@ advance-requires c κs = tt
 cast-judge-number : tie.Need-cast-judge-number
 cast-judge-number c = search needs
 
+cast-judge-number-2 : tie.Need-cast-judge-number-2
+cast-judge-number-2 c = search needs
+
 judge-number-requires : tie.Need-judge-number-requires
 judge-number-requires c κs = tt
 
@@ -96,6 +99,7 @@ write-type-spec =
     judge-xid-requires
     advance-requires
     cast-judge-number
+    cast-judge-number-2
     judge-number-requires
     advance-requires-2
     judge-text-requires
