@@ -7,8 +7,8 @@ use Rattle.message.specs.Layout.{Part}
 use Rattle.message.specs.Kinds.{layout}
 use Rattle.message.specs.Encode.{kindOfMessage, partsOf}
 use Rattle.message.proofs.Parts.{TimeFits}
-use Rattle.capi.specs.Flat.{held, widths}
-use Rattle.capi.proofs.Held.{held-fits}
+use Rattle.capi.specs.Flat.{inBytes, widths}
+use Rattle.capi.proofs.InBytes.{inBytes-fits}
 
 -- as many numbers as widths, and each held by its bytes
 abbrev pub Fit : (widths numbers : List ℕ) → Type 0
@@ -28,24 +28,24 @@ Fits m = PartsFit (layout (kindOfMessage m)) (partsOf m) × TimeFits m
 
 -- WHAT IS HELD OF THEM
 
-abbrev pub heldAll : (widths numbers : List ℕ) → List ℕ
-heldAll [] ns = []
-heldAll (w ∷ ws) [] = []
-heldAll (w ∷ ws) (n ∷ ns) = held w n ∷ heldAll ws ns
+abbrev pub allInBytes : (widths numbers : List ℕ) → List ℕ
+allInBytes [] ns = []
+allInBytes (w ∷ ws) [] = []
+allInBytes (w ∷ ws) (n ∷ ns) = inBytes w n ∷ allInBytes ws ns
 
-abbrev pub heldParts : List Part → List (List ℕ) → List (List ℕ)
-heldParts [] vs = []
-heldParts (p ∷ ps) [] = []
-heldParts (p ∷ ps) (v ∷ vs) = heldAll (widths p) v ∷ heldParts ps vs
+abbrev pub partsInBytes : List Part → List (List ℕ) → List (List ℕ)
+partsInBytes [] vs = []
+partsInBytes (p ∷ ps) [] = []
+partsInBytes (p ∷ ps) (v ∷ vs) = allInBytes (widths p) v ∷ partsInBytes ps vs
 
-all-held : (ws ns : List ℕ) → Fit ws ns → heldAll ws ns ≡ ns
-all-held [] [] f = refl
-all-held [] (n ∷ ns) f = absurd f
-all-held (w ∷ ws) [] f = absurd f
-all-held (w ∷ ws) (n ∷ ns) f = rw (held-fits w n (f .0), all-held ws ns (f .1))
+all-inBytes : (ws ns : List ℕ) → Fit ws ns → allInBytes ws ns ≡ ns
+all-inBytes [] [] f = refl
+all-inBytes [] (n ∷ ns) f = absurd f
+all-inBytes (w ∷ ws) [] f = absurd f
+all-inBytes (w ∷ ws) (n ∷ ns) f = rw (inBytes-fits w n (f .0), all-inBytes ws ns (f .1))
 
-pub parts-held : (ps : List Part) (vs : List (List ℕ)) → PartsFit ps vs → heldParts ps vs ≡ vs
-parts-held [] [] f = refl
-parts-held [] (v ∷ vs) f = absurd f
-parts-held (p ∷ ps) [] f = absurd f
-parts-held (p ∷ ps) (v ∷ vs) f = rw (all-held (widths p) v (f .0), parts-held ps vs (f .1))
+pub parts-inBytes : (ps : List Part) (vs : List (List ℕ)) → PartsFit ps vs → partsInBytes ps vs ≡ vs
+parts-inBytes [] [] f = refl
+parts-inBytes [] (v ∷ vs) f = absurd f
+parts-inBytes (p ∷ ps) [] f = absurd f
+parts-inBytes (p ∷ ps) (v ∷ vs) f = rw (all-inBytes (widths p) v (f .0), parts-inBytes ps vs (f .1))

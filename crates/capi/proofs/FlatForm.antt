@@ -13,13 +13,13 @@ use Rattle.message.proofs.Parts.{message-back}
 use Rattle.capi.specs.Filled.{padded}
 use Rattle.capi.specs.Flat.{joined, flat, kindIn, messageIn, unflat}
 use Rattle.capi.proofs.Sameness.{same-self, same-at}
-use Rattle.capi.proofs.Fitting.{Fits, parts-held}
+use Rattle.capi.proofs.Fitting.{Fits, parts-inBytes}
 use Rattle.capi.proofs.Made.{made, whole-says, in-fits}
 
 -- a message comes back from its flat form
 pub unflat-flat : (m : Message) → Fits m → unflat (flat m) ≡ some m
 unflat-flat m f =
-    rw (made m, parts-held (layout (kindOfMessage m)) (partsOf m) (f .0), message-back m (f .1), same-self 16 (flat m))
+    rw (made m, parts-inBytes (layout (kindOfMessage m)) (partsOf m) (f .0), message-back m (f .1), same-self 16 (flat m))
 
 -- two messages with one flat form are one
 pub flat-one : (m m′ : Message) → Fits m → Fits m′ → flat m ≡ flat m′ → m ≡ m′

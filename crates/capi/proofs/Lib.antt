@@ -1,4 +1,4 @@
-pub mod Held
+pub mod InBytes
 pub mod Sameness
 pub mod Fitting
 pub mod Made

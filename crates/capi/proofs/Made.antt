@@ -18,15 +18,15 @@ use Rattle.message.specs.Layout.{Part}
 use Rattle.message.specs.Kinds.{Kind, begin, commit, origin, relation, type, insert, update, delete, truncate, message, streamStart, streamStop, streamCommit, streamAbort, layout, numbered}
 use Rattle.message.specs.Messages.{messageOf, oldTuple}
 use Rattle.message.specs.Encode.{kindOfMessage, partsOf, oldNumbers}
-use Rattle.capi.specs.Flat.{flat, held, widths, taken, parted, kindIn, messageIn, same, whole}
-use Rattle.capi.proofs.Held.{held-small}
-use Rattle.capi.proofs.Fitting.{Fit, PartsFit, Fits, heldParts}
+use Rattle.capi.specs.Flat.{flat, inBytes, widths, taken, parted, kindIn, messageIn, same, whole}
+use Rattle.capi.proofs.InBytes.{inBytes-small}
+use Rattle.capi.proofs.Fitting.{Fit, PartsFit, Fits, partsInBytes}
 
 -- THE ROW OF A MESSAGE
 
 -- the message that a flat form's numbers make
-pub made : (m : Message) → messageIn (flat m) (kindIn (flat m)) ≡ some (messageOf (kindOfMessage m) (heldParts (layout (kindOfMessage m)) (partsOf m)))
-unfolding held numbered
+pub made : (m : Message) → messageIn (flat m) (kindIn (flat m)) ≡ some (messageOf (kindOfMessage m) (partsInBytes (layout (kindOfMessage m)) (partsOf m)))
+unfolding inBytes numbered
 made (a.Begin m) = refl
 made (a.Commit m) = refl
 made (a.Origin m) = refl
@@ -35,7 +35,7 @@ made (a.«Type» m) = refl
 made (a.Insert m) = refl
 made (a.Update m) = go (m .old)
   where
-    go : (o : OldTuple) → (let u = a.Update (record { xid = m .xid; relation = m .relation; old = o; tuple = m .tuple }) in messageIn (flat u) (kindIn (flat u)) ≡ some (messageOf (kindOfMessage u) (heldParts (layout (kindOfMessage u)) (partsOf u))))
+    go : (o : OldTuple) → (let u = a.Update (record { xid = m .xid; relation = m .relation; old = o; tuple = m .tuple }) in messageIn (flat u) (kindIn (flat u)) ≡ some (messageOf (kindOfMessage u) (partsInBytes (layout (kindOfMessage u)) (partsOf u))))
     go Nothing = refl
     go (Key start) = refl
     go (Full start) = refl
@@ -62,17 +62,17 @@ whole-says ns (some k) m q = go (same 16 (flat k) ns) refl q
 
 taken-fit : (ns : List ℕ) (i : ℕ) (ws : List ℕ) → Fit ws (taken ns i ws)
 taken-fit ns i [] = tt
-taken-fit ns i (w ∷ ws) = (held-small w (getD ns i 0), taken-fit ns (suc i) ws)
+taken-fit ns i (w ∷ ws) = (inBytes-small w (getD ns i 0), taken-fit ns (suc i) ws)
 
 parted-fit : (ns : List ℕ) (i : ℕ) (ps : List Part) → PartsFit ps (parted ns i ps)
 parted-fit ns i [] = tt
 parted-fit ns i (p ∷ ps) = (taken-fit ns i (widths p), parted-fit ns (i + length (widths p)) ps)
 
-time-bits : (n : ℕ) → ofZ w64 (toZ w64 (held 8 n)) ≡ held 8 n
-time-bits n = ofZ-toZ w64 (held 8 n) (record { fits = held-small 8 n })
+time-bits : (n : ℕ) → ofZ w64 (toZ w64 (inBytes 8 n)) ≡ inBytes 8 n
+time-bits n = ofZ-toZ w64 (inBytes 8 n) (record { fits = inBytes-small 8 n })
 
-time-fits : (n : ℕ) → SFits w64 (toZ w64 (held 8 n))
-time-fits n = toZ-fits w64 (held 8 n) (record { fits = held-small 8 n })
+time-fits : (n : ℕ) → SFits w64 (toZ w64 (inBytes 8 n))
+time-fits n = toZ-fits w64 (inBytes 8 n) (record { fits = inBytes-small 8 n })
 
 old-fit : (l start : ℕ) → start < 256 ^ 8 → Fit (1 ∷ 8 ∷ []) (oldNumbers (oldTuple l start))
 old-fit l start h = go (eqb l 0x4B) (eqb l 0x4F)
@@ -91,7 +91,7 @@ made-fits ns type = (parted-fit ns 1 (layout type), tt)
 made-fits ns insert = (parted-fit ns 1 (layout insert), tt)
 made-fits ns update =
     let f = parted-fit ns 1 (layout update) in
-    ((f .0, (f .1 .0, (old-fit (held 1 (getD ns 3 0)) (held 8 (getD ns 4 0)) (held-small 8 (getD ns 4 0)), f .1 .1 .1))), tt)
+    ((f .0, (f .1 .0, (old-fit (inBytes 1 (getD ns 3 0)) (inBytes 8 (getD ns 4 0)) (inBytes-small 8 (getD ns 4 0)), f .1 .1 .1))), tt)
 made-fits ns delete = (parted-fit ns 1 (layout delete), tt)
 made-fits ns truncate = (parted-fit ns 1 (layout truncate), tt)
 made-fits ns message = (parted-fit ns 1 (layout message), tt)

@@ -25,7 +25,7 @@ use Rattle.columns.specs.declared.RelationStep.{RelationStep}
 use Rattle.columns.specs.declared.OidStep.{OidStep}
 use Rattle.message.specs.Layout.{Field, Step, text, column, id, readGroup}
 use Rattle.message.specs.Kinds.{columnFields, upTo, any32}
-use Rattle.columns.specs.Steps.{Stepped, over, gives, refused, stepped, stood, after, tupleColumn, relationColumn, truncatedRelation, tupleStep, relationStep, oidStep}
+use Rattle.columns.specs.Steps.{StepAnswer, over, gives, refused, stepAt, stood, after, tupleColumn, relationColumn, truncatedRelation, tupleStep, relationStep, oidStep}
 use Rattle.capi.specs.Filled.{Filled, filled, padded}
 use Rattle.capi.specs.Stepping.{positionIn, numbersOf, movedBy, stepNumbers, movedOn}
 
@@ -65,7 +65,7 @@ abbrev pub Shows : ℕ → List ℕ → List ℕ → Shown → Position → Type
 Shows n xs ps s q = (returned s ≡ stepNumbers n xs ps) × (moved s q ps ≡ movedOn n xs ps)
 
 -- what is shown of each answer, said once over the fields of what is stepped through
-module _ (xs ps : List ℕ) (fs : List Field) (show : Stepped → Shown) where
+module _ (xs ps : List ℕ) (fs : List Field) (show : StepAnswer → Shown) where
   p : Position
   p = positionIn ps
 
@@ -74,7 +74,7 @@ module _ (xs ps : List ℕ) (fs : List Field) (show : Stepped → Shown) where
 
   step-shown :
       show over ≡ nothing → ((e : ℕ) → show (gives (g .values) e) ≡ past (g .values)) → ((n o : ℕ) → show (refused n o) ≡ refusal n o)
-      → (let s = stepped fs xs p in (returned (show s) ≡ numbersOf s) × (moved (show s) (after s p) ps ≡ movedBy s ps))
+      → (let s = stepAt fs xs p in (returned (show s) ≡ numbersOf s) × (moved (show s) (after s p) ps ≡ movedBy s ps))
   unfolding p g
   step-shown none some no = go (eqb (p .left) 0) (g .next)
     where

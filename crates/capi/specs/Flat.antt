@@ -33,8 +33,8 @@ flat m = row (kindNumber (some (kindOfMessage m)) ∷ joined (partsOf m))
 -- THE MESSAGE OF A ROW
 
 -- a number that w bytes hold, else 0
-unfoldable pub held : ℕ → ℕ → ℕ
-held w n = cond (ltb n (256 ^ w)) n 0
+unfoldable pub inBytes : ℕ → ℕ → ℕ
+inBytes w n = cond (ltb n (256 ^ w)) n 0
 
 -- how many bytes hold each number of a field; of a start or a length 8
 abbrev pub fieldWidths : Field → List ℕ
@@ -59,7 +59,7 @@ widths (optionalTuple set) = 1 ∷ 8 ∷ []
 -- the numbers of a row from place i on, as these widths hold them
 abbrev pub taken : List ℕ → ℕ → List ℕ → List ℕ
 taken ns i [] = []
-taken ns i (w ∷ ws) = held w (getD ns i 0) ∷ taken ns (suc i) ws
+taken ns i (w ∷ ws) = inBytes w (getD ns i 0) ∷ taken ns (suc i) ws
 
 -- the parts of a layout, from place i of a row on
 abbrev pub parted : List ℕ → ℕ → List Part → List (List ℕ)
@@ -67,7 +67,7 @@ parted ns i [] = []
 parted ns i (p ∷ ps) = taken ns i (widths p) ∷ parted ns (i + length (widths p)) ps
 
 abbrev pub kindIn : List ℕ → Option Kind
-kindIn ns = kindNumbered (held 1 (getD ns 0 0))
+kindIn ns = kindNumbered (inBytes 1 (getD ns 0 0))
 
 -- the message of a kind that a row's numbers make
 abbrev pub messageIn : List ℕ → Option Kind → Option Message

@@ -11,7 +11,7 @@ use Rattle.columns.specs.declared.Started.{Started}
 use Rattle.columns.specs.declared.Started.the-variants as started
 use Rattle.columns.specs.declared.Which.the-variants.{Old, New}
 use Rattle.columns.specs.Starts.{absent}
-use Rattle.columns.specs.Steps.{Stepped, over, gives, refused, stepped, after}
+use Rattle.columns.specs.Steps.{StepAnswer, over, gives, refused, stepAt, after}
 use Rattle.columns.specs.Visits.{Section, tuple, columns, oids, fieldsOf, startOf}
 use Rattle.capi.specs.Filled.{Filled, filled, padded}
 
@@ -39,12 +39,12 @@ abbrev pub positionIn : List ℕ → Position
 positionIn ps = record { offset = getD ps 0 0; left = getD ps 1 0 }
 
 -- what stands at a position; a number that is no section: 4 at 0
-abbrev pub standing : Option Section → List ℕ → Position → Stepped
+abbrev pub standing : Option Section → List ℕ → Position → StepAnswer
 standing none xs p = refused 4 0
-standing (some s) xs p = stepped (fieldsOf s) xs p
+standing (some s) xs p = stepAt (fieldsOf s) xs p
 
 -- 0 and the numbers of what was stepped past; 255 where none are left; or a refusal and its offset; and zeros behind
-abbrev pub numbersOf : Stepped → Filled
+abbrev pub numbersOf : StepAnswer → Filled
 numbersOf over = filled 255 (padded 5 [])
 numbersOf (gives v e) = filled 0 (padded 5 v)
 numbersOf (refused n o) = filled n (padded 5 (o ∷ []))
@@ -53,7 +53,7 @@ unfoldable pub stepNumbers : ℕ → List ℕ → List ℕ → Filled
 stepNumbers n xs ps = numbersOf (standing (sectionOf n) xs (positionIn ps))
 
 -- the position's numbers after a step: unless 0 is returned, as they were
-abbrev pub movedBy : Stepped → List ℕ → List ℕ
+abbrev pub movedBy : StepAnswer → List ℕ → List ℕ
 movedBy over ps = ps
 movedBy (gives v e) ps = let q = after (gives v e) (positionIn ps) in q .offset ∷ q .left ∷ []
 movedBy (refused n o) ps = ps

@@ -6,7 +6,7 @@ ghost use mathlib.Core.List.{List};
 ghost use Rattle.message.specs.Kinds.{begin, commit, origin, relation, type, insert, update, delete, truncate, message, streamStart, streamStop, streamCommit, streamAbort};
 ghost use Rattle.message.specs.Messages.{oldTuple};
 ghost use Rattle.writer.specs.Answer.{Settles, refusal};
-ghost use Rattle.capi.specs.Flat.{held, messageIn, same, whole, unflat, writeFound};
+ghost use Rattle.capi.specs.Flat.{inBytes, messageIn, same, whole, unflat, writeFound};
 use crate::flat;
 use message::Begin;
 use message::Commit;
@@ -28,37 +28,37 @@ use writer::Written;
 
 // A number that fits, else 0.
 fn byte(n: u64) -> u8
-    ensures { λ r. ⌜ r ≡ held 1 n ⌝ }
+    ensures { λ r. ⌜ r ≡ inBytes 1 n ⌝ }
 {
     if n <= 0xFF { n as u8 } else { 0 }
 }
 
 fn half(n: u64) -> u16
-    ensures { λ r. ⌜ r ≡ held 2 n ⌝ }
+    ensures { λ r. ⌜ r ≡ inBytes 2 n ⌝ }
 {
     if n <= 0xFFFF { n as u16 } else { 0 }
 }
 
 fn word(n: u64) -> u32
-    ensures { λ r. ⌜ r ≡ held 4 n ⌝ }
+    ensures { λ r. ⌜ r ≡ inBytes 4 n ⌝ }
 {
     if n <= 0xFFFF_FFFF { n as u32 } else { 0 }
 }
 
 fn long(n: u64) -> u64
-    ensures { λ r. ⌜ r ≡ held 8 n ⌝ }
+    ensures { λ r. ⌜ r ≡ inBytes 8 n ⌝ }
 {
     n
 }
 
 fn offset(n: u64) -> usize
-    ensures { λ r. ⌜ r ≡ held 8 n ⌝ }
+    ensures { λ r. ⌜ r ≡ inBytes 8 n ⌝ }
 {
     n as usize
 }
 
 fn span(start: u64, length: u64) -> Span
-    ensures { λ r. ⌜ r ≡ record { start = held 8 start; length = held 8 length } ⌝ }
+    ensures { λ r. ⌜ r ≡ record { start = inBytes 8 start; length = inBytes 8 length } ⌝ }
 {
     Span {
         start: offset(start),
@@ -67,7 +67,7 @@ fn span(start: u64, length: u64) -> Span
 }
 
 fn old_tuple(letter: u64, start: u64) -> OldTuple
-    ensures { λ r. ⌜ r ≡ oldTuple (held 1 letter) (held 8 start) ⌝ }
+    ensures { λ r. ⌜ r ≡ oldTuple (inBytes 1 letter) (inBytes 8 start) ⌝ }
 {
     let start = offset(start);
     match byte(letter) {

@@ -1,4 +1,4 @@
 pub mod Without
 pub mod Parts
-pub mod Sections
+pub mod Whole
 pub mod Visits

@@ -23,9 +23,9 @@ use Rattle.columns.specs.declared.Started.the-variants as started
 use Rattle.columns.specs.declared.Found.{Found}
 use Rattle.columns.specs.declared.Found.the-variants as found
 use Rattle.columns.specs.declared.Which.the-variants.{Old, New}
-use Rattle.columns.specs.Starts.{contentsOf, tuplePosition}
+use Rattle.columns.specs.Starts.{sectionsOf, tuplePosition}
 use Rattle.columns.specs.Visits.{Section, tuple, columns, oids, fieldsOf, startOf, groupsOf, Visit, visit, visited}
-use Rattle.columns.proofs.Sections.{TupleAt, GroupsAt, Sound, groups-at, kind-sound}
+use Rattle.columns.proofs.Whole.{TupleAt, GroupsAt, Sound, groups-at, kind-sound}
 
 abbrev pub position : ℕ → ℕ → Position
 position offset left = record { offset = offset; left = left }
@@ -59,11 +59,11 @@ tuple-at xs p (found.At start) w q =
     let t = w start refl in
     groups-at xs (column ∷ []) (n .value) (n .next) (t .0) (t .1) p q
 
-in-contents : (s : Section) (xs : List ℕ) (m : Message) (p : Position) → Sound xs (contentsOf m) → startOf s xs (read.Message m) ≡ started.At p → GroupsAt xs (fieldsOf s) p
-in-contents (tuple Old) xs m p k q = tuple-at xs p (contentsOf m .old) (k .old-whole) q
-in-contents (tuple New) xs m p k q = tuple-at xs p (contentsOf m .new) (k .new-whole) q
-in-contents columns xs m p k q = k .columns-whole p q
-in-contents oids xs m p k q = k .oids-whole p q
+in-sections : (s : Section) (xs : List ℕ) (m : Message) (p : Position) → Sound xs (sectionsOf m) → startOf s xs (read.Message m) ≡ started.At p → GroupsAt xs (fieldsOf s) p
+in-sections (tuple Old) xs m p k q = tuple-at xs p (sectionsOf m .old) (k .old-whole) q
+in-sections (tuple New) xs m p k q = tuple-at xs p (sectionsOf m .new) (k .new-whole) q
+in-sections columns xs m p k q = k .columns-whole p q
+in-sections oids xs m p k q = k .oids-whole p q
 
 no-start : (s : Section) (xs : List ℕ) (r : Refusal) (p : Position) → startOf s xs (read.Refused r) ≡ started.At p → GroupsAt xs (fieldsOf s) p
 no-start (tuple w) xs r p q = let z : _≡_ {A = ℕ} 0 1 = cc in absurd (omega arith)
@@ -77,8 +77,8 @@ module _ (s : Section) (v : Version) (b : Bool) (xs : List ℕ) (p : Position) w
     where
       read-whole : (m : Message) → Accepted v b xs m → startOf s xs (read.Message m) ≡ started.At p → GroupsAt xs (fieldsOf s) p
       read-whole m a q =
-          let k : Sound xs (contentsOf m) = rw (a .message) (kind-sound xs b (a .kind) (length xs) (a .ends)) in
-          in-contents s xs m p k q
+          let k : Sound xs (sectionsOf m) = rw (a .message) (kind-sound xs b (a .kind) (length xs) (a .ends)) in
+          in-sections s xs m p k q
 
       go : (r : Read) → readMessage v b xs ≡ r → startOf s xs r ≡ started.At p → GroupsAt xs (fieldsOf s) p
       go (read.Refused r) e q = no-start s xs r p q

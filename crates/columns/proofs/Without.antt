@@ -8,13 +8,13 @@ use Rattle.message.specs.declared.Message.{Message}
 use Rattle.message.proofs.Message.{the-type}
 use Rattle.message.specs.declared.Message.the-variants as m
 use Rattle.columns.specs.declared.Found.the-variants as found
-use Rattle.columns.specs.Starts.{contentsOf, withTuples}
+use Rattle.columns.specs.Starts.{sectionsOf, withTuples}
 
 -- the variants that have nothing
 abbrev others : List ℕ
 others = 0 ∷ 1 ∷ 2 ∷ 4 ∷ 9 ∷ 10 ∷ 11 ∷ 12 ∷ 13 ∷ []
 
-pub nothing-in : (x : Message) → OneOf others (tagOf the-type x) → contentsOf x ≡ withTuples found.Nothing found.Nothing
+pub nothing-in : (x : Message) → OneOf others (tagOf the-type x) → sectionsOf x ≡ withTuples found.Nothing found.Nothing
 nothing-in (m.Begin r) k = refl
 nothing-in (m.Commit r) k = refl
 nothing-in (m.Origin r) k = refl

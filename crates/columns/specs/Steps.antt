@@ -24,21 +24,21 @@ use Rattle.columns.specs.declared.TruncatedRelation.the-variants as oid
 use Rattle.columns.specs.declared.OidStep.{OidStep}
 
 -- what stands at a position: the numbers of one group of fields and where it ends, that stepping is over, or reading's refusal
-pub data Stepped : Type 0 where
-  over : Stepped
-  gives : List ℕ → ℕ → Stepped
-  refused : ℕ → ℕ → Stepped
+pub data StepAnswer : Type 0 where
+  over : StepAnswer
+  gives : List ℕ → ℕ → StepAnswer
+  refused : ℕ → ℕ → StepAnswer
 
-abbrev pub stood : List ℕ → Cursor → Stepped
+abbrev pub stood : List ℕ → Cursor → StepAnswer
 stood v (At e) = gives v e
 stood v (Refused n o) = refused n o
 
 -- with none left it is over, whatever the offset; else the group at the offset
-abbrev pub stepped : List Field → List ℕ → Position → Stepped
-stepped fs xs p = cond (eqb (p .left) 0) over (let g = readGroup fs xs (At (p .offset)) in stood (g .values) (g .next))
+abbrev pub stepAt : List Field → List ℕ → Position → StepAnswer
+stepAt fs xs p = cond (eqb (p .left) 0) over (let g = readGroup fs xs (At (p .offset)) in stood (g .values) (g .next))
 
 -- past a group, with one less left; after any other answer where it was
-abbrev pub after : Stepped → Position → Position
+abbrev pub after : StepAnswer → Position → Position
 after over p = p
 after (gives v e) p = record { offset = e; left = p .left - 1 }
 after (refused n o) p = p
@@ -46,34 +46,34 @@ after (refused n o) p = p
 -- A TUPLE'S COLUMN
 
 -- its letter, and the start and length of its value
-abbrev pub tupleColumn : Stepped → Column
+abbrev pub tupleColumn : StepAnswer → Column
 tupleColumn over = tuple.Over
 tupleColumn (gives v e) = tuple.Value (getD v 0 0) (getD v 1 0) (getD v 2 0)
 tupleColumn (refused n o) = tuple.Refused n o
 
 unfoldable pub tupleStep : List ℕ → Position → TupleStep
-tupleStep xs p = let s = stepped (column ∷ []) xs p in record { column = tupleColumn s; next = after s p }
+tupleStep xs p = let s = stepAt (column ∷ []) xs p in record { column = tupleColumn s; next = after s p }
 
 -- A RELATION'S COLUMN
 
 -- its flags, name, type OID and type modifier
-abbrev pub relationColumn : Stepped → RelationColumn
+abbrev pub relationColumn : StepAnswer → RelationColumn
 relationColumn over = relation.Over
 relationColumn (gives v e) = relation.Column (getD v 0 0) (record { start = getD v 1 0; length = getD v 2 0 }) (getD v 3 0) (toZ w32 (getD v 4 0))
 relationColumn (refused n o) = relation.Refused n o
 
 unfoldable pub relationStep : List ℕ → Position → RelationStep
-relationStep xs p = let s = stepped columnFields xs p in record { column = relationColumn s; next = after s p }
+relationStep xs p = let s = stepAt columnFields xs p in record { column = relationColumn s; next = after s p }
 
 -- A TRUNCATE'S OID
 
-abbrev pub truncatedRelation : Stepped → TruncatedRelation
+abbrev pub truncatedRelation : StepAnswer → TruncatedRelation
 truncatedRelation over = oid.Over
 truncatedRelation (gives v e) = oid.Oid (getD v 0 0)
 truncatedRelation (refused n o) = oid.Refused n o
 
 unfoldable pub oidStep : List ℕ → Position → OidStep
-oidStep xs p = let s = stepped (id ∷ []) xs p in record { relation = truncatedRelation s; next = after s p }
+oidStep xs p = let s = stepAt (id ∷ []) xs p in record { relation = truncatedRelation s; next = after s p }
 
 -- WHAT THE CODE READS, for private contracts: the fields of one group, and where reading stands after them
 

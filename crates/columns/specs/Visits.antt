@@ -9,7 +9,7 @@ use Rattle.columns.specs.declared.Position.{Position}
 use Rattle.columns.specs.declared.Started.{Started}
 use Rattle.columns.specs.declared.Which.{Which}
 use Rattle.columns.specs.Starts.{tupleStart, relationStart, oidStart}
-use Rattle.columns.specs.Steps.{Stepped, over, gives, refused, stepped, after}
+use Rattle.columns.specs.Steps.{StepAnswer, over, gives, refused, stepAt, after}
 
 -- what is stepped through
 pub data Section : Type 0 where
@@ -41,7 +41,7 @@ pub record Visit : Type 0 where
 abbrev pub visit : List (List ℕ) → Position → Visit
 visit vs p = record { given = vs; last = p }
 
-abbrev pub noting : Stepped → Visit → Visit
+abbrev pub noting : StepAnswer → Visit → Visit
 noting over v = v
 noting (gives g e) v = visit (g ∷ v .given) (v .last)
 noting (refused n o) v = v
@@ -49,4 +49,4 @@ noting (refused n o) v = v
 -- what k steps from a position give, and where stepping stands then
 abbrev pub visited : List Field → List ℕ → ℕ → Position → Visit
 visited fs xs zero p = visit [] p
-visited fs xs (suc k) p = let s = stepped fs xs p in noting s (visited fs xs k (after s p))
+visited fs xs (suc k) p = let s = stepAt fs xs p in noting s (visited fs xs k (after s p))

@@ -46,7 +46,7 @@ pub enum Found {
 }
 
 // What of a message can be stepped through: where its tuples start, and its columns' and OIDs' positions.
-pub struct Contents {
+pub struct Sections {
     pub old: Found,
     pub new: Found,
     pub columns: Started,

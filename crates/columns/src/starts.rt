@@ -1,10 +1,10 @@
 // What of a message can be stepped through, and where it starts.
 ghost use mathlib.Core.Path.{_≡_};
 ghost use Rattle.message.specs.Messages.{readMessage};
-ghost use Rattle.columns.specs.Starts.{oldOffset, absent, withTuples, contentsOf, tuplePosition, tupleStart, relationStart, oidStart};
-use crate::Contents;
+ghost use Rattle.columns.specs.Starts.{oldOffset, absent, withTuples, sectionsOf, tuplePosition, tupleStart, relationStart, oidStart};
 use crate::Found;
 use crate::Position;
+use crate::Sections;
 use crate::Started;
 use crate::Which;
 use message::Message;
@@ -38,12 +38,12 @@ fn lacking() -> Started
 }
 
 // A message that has tuples at most.
-fn tuples(old: Found, new: Found) -> Contents
+fn tuples(old: Found, new: Found) -> Sections
     ensures { λ r. ⌜ r ≡ withTuples old new ⌝ }
 {
     let columns = lacking();
     let oids = lacking();
-    Contents {
+    Sections {
         old,
         new,
         columns,
@@ -52,8 +52,8 @@ fn tuples(old: Found, new: Found) -> Contents
 }
 
 // What of a message can be stepped through, and where it starts.
-fn contents_of(m: Message) -> Contents
-    ensures { λ r. ⌜ r ≡ contentsOf m ⌝ }
+fn sections_of(m: Message) -> Sections
+    ensures { λ r. ⌜ r ≡ sectionsOf m ⌝ }
 {
     match m {
         Message::Insert(x) => tuples(Found::Nothing, Found::At(x.tuple)),
@@ -71,7 +71,7 @@ fn contents_of(m: Message) -> Contents
             let offset = x.columns;
             let left = x.count as usize;
             let oids = lacking();
-            Contents {
+            Sections {
                 old: Found::Nothing,
                 new: Found::Nothing,
                 columns: Started::At(Position { offset, left }),
@@ -82,7 +82,7 @@ fn contents_of(m: Message) -> Contents
             let offset = x.relations;
             let left = x.count as usize;
             let columns = lacking();
-            Contents {
+            Sections {
                 old: Found::Nothing,
                 new: Found::Nothing,
                 columns,
@@ -116,12 +116,12 @@ pub fn tuple_start(version: Version, in_block: bool, message: &[u8], which: Whic
     match read {
         Read::Refused(refusal) => Started::Refused(refusal),
         Read::Message(m) => {
-            let Contents {
+            let Sections {
                 old,
                 new,
                 columns: _,
                 oids: _,
-            } = contents_of(m);
+            } = sections_of(m);
             match which {
                 Which::Old => tuple_position(message, old),
                 Which::New => tuple_position(message, new),
@@ -138,12 +138,12 @@ pub fn relation_start(version: Version, in_block: bool, message: &[u8]) -> Start
     match read {
         Read::Refused(refusal) => Started::Refused(refusal),
         Read::Message(m) => {
-            let Contents {
+            let Sections {
                 old: _,
                 new: _,
                 columns,
                 oids: _,
-            } = contents_of(m);
+            } = sections_of(m);
             columns
         }
     }
@@ -157,12 +157,12 @@ pub fn oid_start(version: Version, in_block: bool, message: &[u8]) -> Started
     match read {
         Read::Refused(refusal) => Started::Refused(refusal),
         Read::Message(m) => {
-            let Contents {
+            let Sections {
                 old: _,
                 new: _,
                 columns: _,
                 oids,
-            } = contents_of(m);
+            } = sections_of(m);
             oids
         }
     }

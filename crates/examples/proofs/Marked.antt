@@ -9,8 +9,8 @@ use Rattle.wire.specs.Fields.{numberField, letterField, member, textField, unti
 use Rattle.message.specs.declared.Message.the-variants as a
 use Rattle.message.specs.declared.Read.{Read}
 use Rattle.message.specs.declared.Read.the-variants as answer
-use Rattle.message.specs.Layout.{columnEnd, groupsEnd, tupleEnd, optional, xidField}
-use Rattle.message.specs.Kinds.{named}
+use Rattle.message.specs.Layout.{columnValue, columnEnd, groupsEnd, tupleEnd, optional, xidField}
+use Rattle.message.specs.Kinds.{kindAmong}
 use Rattle.message.specs.Versions.{versionAllows, versionHas}
 use Rattle.message.specs.Messages.{span, refuse, readKind, readMessage}
 use Rattle.message.specs.Encode.{partsOf}
@@ -28,7 +28,7 @@ use Rattle.columns.specs.declared.RelationColumn.{RelationColumn}
 use Rattle.columns.specs.declared.RelationColumn.the-variants as column
 use Rattle.columns.specs.Parts.{partOf}
 use Rattle.columns.specs.Starts.{tuplePosition, tupleStart, relationStart}
-use Rattle.columns.specs.Steps.{columnField, relationField, tupleStep, relationStep}
+use Rattle.columns.specs.Steps.{tupleStep, relationStep}
 
 -- what an example asks
 pub data Question : Type 0 where
@@ -165,5 +165,5 @@ table =
     ∷ []
 
 pub marked : map (λ (e : Example). ask (e .question)) table ≡ map (λ (e : Example). e .answer) table
-unfolding ask read tagged answersBy from tupleSteps relationSteps valueBytes nameBytes textBytes partOf example is table tuplePosition columnField relationField tupleStep relationStep readMessage readKind named versionAllows versionHas valueField columnEnd groupsEnd tupleEnd optional xidField be wordAt numberField letterField member textField untilZero bytesField
+unfolding ask read tagged answersBy from tupleSteps relationSteps valueBytes nameBytes textBytes partOf example is table tuplePosition tupleStep relationStep readMessage readKind kindAmong versionAllows versionHas valueField columnValue columnEnd groupsEnd tupleEnd optional xidField be wordAt numberField letterField member textField untilZero bytesField
 marked = refl

@@ -104,7 +104,7 @@ fn give(run: Running, bytes: &[u8], size: usize, line: &[u8], answer: usize) -> 
     } = run;
     let mut buffer = before;
     let mut out = [UNRELEASED; ROOM];
-    let keeper::Stepped {
+    let keeper::KeeperStep {
         session: after,
         reply,
         held: holds,

@@ -117,7 +117,7 @@ pub fn step(both: Both, bytes: &[u8], index: u64, buffer: &mut [u8], out: &mut [
         session: alone_after,
         answer,
     } = session::step(alone, bytes, index);
-    let keeper::Stepped {
+    let keeper::KeeperStep {
         session: keeping_after,
         reply,
         held: holds,

@@ -7,7 +7,7 @@ use lib.ListN.{replicate}
 use Rattle.wire.specs.Numbers.{be, wordAt}
 use Rattle.wire.specs.Fields.{numberField, letterField, member, textField, untilZero, bytesField, valueField}
 use Rattle.message.specs.Layout.{columnEnd, groupsEnd, tupleEnd, optional, xidField}
-use Rattle.message.specs.Kinds.{named}
+use Rattle.message.specs.Kinds.{kindAmong}
 use Rattle.message.specs.Versions.{versionAllows, versionHas}
 use Rattle.message.specs.Messages.{readKind, readMessage}
 use Rattle.message.specs.Encode.{digits}
@@ -60,5 +60,5 @@ pub example : outcomes (record { number = 2 }) empty [] feed ≡
     ∷ gets (said.Refused 13 0) 0 (replicate 20 170) two 27
     ∷ gets said.Accepted 27 (packed 7 ++ replicate 3 170) two 0
     ∷ []
-unfolding outcomes recordOf digits readMessage readKind named versionAllows versionHas valueField columnEnd groupsEnd tupleEnd optional xidField be wordAt numberField letterField member textField untilZero bytesField
+unfolding outcomes recordOf digits readMessage readKind kindAmong versionAllows versionHas valueField columnEnd groupsEnd tupleEnd optional xidField be wordAt numberField letterField member textField untilZero bytesField
 example = refl

@@ -8,7 +8,7 @@ use lib.ListN.{replicate, drop}
 use Rattle.wire.specs.Numbers.{be, wordAt}
 use Rattle.wire.specs.Fields.{numberField, letterField, member, textField, untilZero, bytesField, valueField}
 use Rattle.message.specs.Layout.{columnEnd, groupsEnd, tupleEnd, optional, xidField}
-use Rattle.message.specs.Kinds.{named}
+use Rattle.message.specs.Kinds.{kindAmong}
 use Rattle.message.specs.Versions.{versionAllows, versionHas}
 use Rattle.message.specs.Messages.{readKind, readMessage}
 use Rattle.message.specs.Encode.{digits}
@@ -60,15 +60,15 @@ change-not : (x o : ℕ) (ts : List Tuple) → heard (Change x o ts) ≡ heard S
 change-not x o ts e = let z : _≡_ {A = ℕ} 0 1 = cc in omega arith
 
 seven : BlockOf (versionOf two) 7 (map givenOf (block 7 1 100 1))
-unfolding readMessage readKind named versionAllows versionHas valueField columnEnd groupsEnd tupleEnd optional xidField be wordAt numberField letterField member textField untilZero bytesField
+unfolding readMessage readKind kindAmong versionAllows versionHas valueField columnEnd groupsEnd tupleEnd optional xidField be wordAt numberField letterField member textField untilZero bytesField
 seven = starts {first = 1} refl (goes (relation-not _ _ _) (goes (change-not _ _ _) (stops refl)))
 
 nine : BlockOf (versionOf two) 9 (map givenOf (block 9 1 102 2))
-unfolding readMessage readKind named versionAllows versionHas valueField columnEnd groupsEnd tupleEnd optional xidField be wordAt numberField letterField member textField untilZero bytesField
+unfolding readMessage readKind kindAmong versionAllows versionHas valueField columnEnd groupsEnd tupleEnd optional xidField be wordAt numberField letterField member textField untilZero bytesField
 nine = starts {first = 1} refl (goes (relation-not _ _ _) (goes (change-not _ _ _) (stops refl)))
 
 accepted : areAccepted (got (replicate 60 0) [] (block 7 1 100 1 ++ block 9 1 102 2)) ≡ true
-unfolding gets outcomes recordOf digits readMessage readKind named versionAllows versionHas valueField columnEnd groupsEnd tupleEnd optional xidField be wordAt numberField letterField member textField untilZero bytesField
+unfolding gets outcomes recordOf digits readMessage readKind kindAmong versionAllows versionHas valueField columnEnd groupsEnd tupleEnd optional xidField be wordAt numberField letterField member textField untilZero bytesField
 accepted = ap (λ (os : List Outcome). areAccepted (map gotten os)) (keeper-outcomes two (replicate 60 0) (block 7 1 100 1 ++ block 9 1 102 2))
 
 -- so every list after them gets the same
@@ -86,11 +86,11 @@ abbrev ending : List Call
 ending = call (given commit 3) (replicate 30 0) ∷ []
 
 releases : released (got (replicate 30 0) (block 7 1 100 1 ++ block 9 1 102 2) ending) ≡ 27
-unfolding gets outcomes recordOf digits readMessage readKind named versionAllows versionHas valueField columnEnd groupsEnd tupleEnd optional xidField be wordAt numberField letterField member textField untilZero bytesField
+unfolding gets outcomes recordOf digits readMessage readKind kindAmong versionAllows versionHas valueField columnEnd groupsEnd tupleEnd optional xidField be wordAt numberField letterField member textField untilZero bytesField
 releases = ap (λ (os : List Outcome). released (drop 8 (map gotten os))) (keeper-outcomes two (replicate 30 0) ((block 7 1 100 1 ++ block 9 1 102 2) ++ ending))
 
 releases-not : released (got (replicate 30 0) (block 9 1 102 2 ++ block 7 1 100 1) ending) ≡ 0
-unfolding gets outcomes recordOf digits readMessage readKind named versionAllows versionHas valueField columnEnd groupsEnd tupleEnd optional xidField be wordAt numberField letterField member textField untilZero bytesField
+unfolding gets outcomes recordOf digits readMessage readKind kindAmong versionAllows versionHas valueField columnEnd groupsEnd tupleEnd optional xidField be wordAt numberField letterField member textField untilZero bytesField
 releases-not = ap (λ (os : List Outcome). released (drop 8 (map gotten os))) (keeper-outcomes two (replicate 30 0) ((block 9 1 102 2 ++ block 7 1 100 1) ++ ending))
 
 pub without-room : got (replicate 30 0) (block 7 1 100 1 ++ block 9 1 102 2) ending ≡ got (replicate 30 0) (block 9 1 102 2 ++ block 7 1 100 1) ending → ⊥
@@ -115,19 +115,19 @@ further = call (given (start 7 0) 3) [] ∷ call (given (insert 7) 3) [] ∷ []
 
 -- the blocks are accepted in both orders
 pub one-accepted : areAccepted (got (replicate 90 0) opened (block 7 0 100 1 ++ block 7 0 102 2)) ≡ true
-unfolding gets outcomes recordOf digits readMessage readKind named versionAllows versionHas valueField columnEnd groupsEnd tupleEnd optional xidField be wordAt numberField letterField member textField untilZero bytesField
+unfolding gets outcomes recordOf digits readMessage readKind kindAmong versionAllows versionHas valueField columnEnd groupsEnd tupleEnd optional xidField be wordAt numberField letterField member textField untilZero bytesField
 one-accepted = ap (λ (os : List Outcome). areAccepted (drop 2 (map gotten os))) (keeper-outcomes two (replicate 90 0) (opened ++ (block 7 0 100 1 ++ block 7 0 102 2)))
 
 pub other-accepted : areAccepted (got (replicate 90 0) opened (block 7 0 102 2 ++ block 7 0 100 1)) ≡ true
-unfolding gets outcomes recordOf digits readMessage readKind named versionAllows versionHas valueField columnEnd groupsEnd tupleEnd optional xidField be wordAt numberField letterField member textField untilZero bytesField
+unfolding gets outcomes recordOf digits readMessage readKind kindAmong versionAllows versionHas valueField columnEnd groupsEnd tupleEnd optional xidField be wordAt numberField letterField member textField untilZero bytesField
 other-accepted = ap (λ (os : List Outcome). areAccepted (drop 2 (map gotten os))) (keeper-outcomes two (replicate 90 0) (opened ++ (block 7 0 102 2 ++ block 7 0 100 1)))
 
 sees-two : tags (got (replicate 90 0) (opened ++ (block 7 0 100 1 ++ block 7 0 102 2)) further) ≡ 2
-unfolding gets outcomes recordOf digits readMessage readKind named versionAllows versionHas valueField columnEnd groupsEnd tupleEnd optional xidField be wordAt numberField letterField member textField untilZero bytesField
+unfolding gets outcomes recordOf digits readMessage readKind kindAmong versionAllows versionHas valueField columnEnd groupsEnd tupleEnd optional xidField be wordAt numberField letterField member textField untilZero bytesField
 sees-two = ap (λ (os : List Outcome). tags (drop 10 (map gotten os))) (keeper-outcomes two (replicate 90 0) ((opened ++ (block 7 0 100 1 ++ block 7 0 102 2)) ++ further))
 
 sees-one : tags (got (replicate 90 0) (opened ++ (block 7 0 102 2 ++ block 7 0 100 1)) further) ≡ 1
-unfolding gets outcomes recordOf digits readMessage readKind named versionAllows versionHas valueField columnEnd groupsEnd tupleEnd optional xidField be wordAt numberField letterField member textField untilZero bytesField
+unfolding gets outcomes recordOf digits readMessage readKind kindAmong versionAllows versionHas valueField columnEnd groupsEnd tupleEnd optional xidField be wordAt numberField letterField member textField untilZero bytesField
 sees-one = ap (λ (os : List Outcome). tags (drop 10 (map gotten os))) (keeper-outcomes two (replicate 90 0) ((opened ++ (block 7 0 102 2 ++ block 7 0 100 1)) ++ further))
 
 pub one-xid : got (replicate 90 0) (opened ++ (block 7 0 100 1 ++ block 7 0 102 2)) further ≡ got (replicate 90 0) (opened ++ (block 7 0 102 2 ++ block 7 0 100 1)) further → ⊥

@@ -24,7 +24,7 @@ pub struct Reply {
 }
 
 // A session after a message, what the message got, and how many bytes are held then.
-pub struct Stepped {
+pub struct KeeperStep {
     pub session: Session,
     pub reply: Reply,
     pub held: usize,
@@ -199,7 +199,7 @@ pub fn step(
     buffer: &mut [u8],
     held: usize,
     out: &mut [u8],
-) -> Stepped
+) -> KeeperStep
     ensures { λ r. ⌜ after (r .session) (r .reply) (now (out .exit)) (hold (now (buffer .exit)) (r .held)) ≡ stepOf session (hold (now (buffer .entry)) held) (now (out .entry)) (now (bytes .entry)) tag ⌝ }
 {
     let mut head = session.head;
@@ -233,7 +233,7 @@ pub fn step(
         identities,
         columns,
     };
-    Stepped {
+    KeeperStep {
         session,
         reply,
         held: holds,

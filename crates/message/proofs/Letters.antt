@@ -12,7 +12,7 @@ use lib.Dec.{eqb}
 use lib.ListN.{getD}
 use Rattle.wire.specs.Fields.{member}
 use Rattle.wire.proofs.Tests.{and-parts}
-use Rattle.message.specs.Kinds.{Kind, begin, commit, origin, relation, type, insert, update, delete, truncate, message, streamStart, streamStop, streamCommit, streamAbort, letterOf, allKinds, named, kindOf, kindNumber, numbered, kindNumbered}
+use Rattle.message.specs.Kinds.{Kind, begin, commit, origin, relation, type, insert, update, delete, truncate, message, streamStart, streamStop, streamCommit, streamAbort, letterOf, allKinds, kindAmong, kindOf, kindNumber, numbered, kindNumbered}
 
 -- the first n values of a function
 module _ {A : Type 0} where
@@ -50,7 +50,7 @@ numbered-number (some streamAbort) = refl
 
 -- and by its letter
 pub of-letter : (k : Kind) → kindOf (letterOf k) ≡ some k
-unfolding named
+unfolding kindAmong
 of-letter begin = refl
 of-letter commit = refl
 of-letter origin = refl
@@ -69,12 +69,12 @@ of-letter streamAbort = refl
 some-is : {j k : Kind} → some j ≡ some k → letterOf j ≡ letterOf k
 some-is e = cc
 
-found : (l : ℕ) (k : Kind) (ks : List Kind) → named ks l ≡ some k → l ≡ letterOf k
-unfolding named
+found : (l : ℕ) (k : Kind) (ks : List Kind) → kindAmong ks l ≡ some k → l ≡ letterOf k
+unfolding kindAmong
 found l k [] e = let z : _≡_ {A = ℕ} 0 1 = cc in absurd (omega arith)
 found l k (j ∷ js) e = go (eqb l (letterOf j)) refl (found l k js) e
   where
-    go : (t : Bool) → eqb l (letterOf j) ≡ t → (named js l ≡ some k → l ≡ letterOf k) → cond t (some j) (named js l) ≡ some k → l ≡ letterOf k
+    go : (t : Bool) → eqb l (letterOf j) ≡ t → (kindAmong js l ≡ some k → l ≡ letterOf k) → cond t (some j) (kindAmong js l) ≡ some k → l ≡ letterOf k
     go true t later e = eqb-true l (letterOf j) t ∙ some-is e
     go false t later e = later e
 
@@ -107,7 +107,7 @@ table =
 
 -- the letter rule, by computation: the entry at each byte is the number of the kind that it names, 0 where it names none
 by-letter : table ≡ tabulate 256 (λ l. kindNumber (kindOf l))
-unfolding table named
+unfolding table kindAmong
 by-letter = refl
 
 pub entry : (l : ℕ) → l < 256 → getD table l 0 ≡ kindNumber (kindOf l)

@@ -134,13 +134,13 @@ layout streamAbort = xid ∷ xid ∷ []
 
 -- THE KIND OF A FIRST BYTE
 
-unfoldable pub named : List Kind → ℕ → Option Kind
-named [] l = none
-named (k ∷ ks) l = cond (eqb l (letterOf k)) (some k) (named ks l)
+unfoldable pub kindAmong : List Kind → ℕ → Option Kind
+kindAmong [] l = none
+kindAmong (k ∷ ks) l = cond (eqb l (letterOf k)) (some k) (kindAmong ks l)
 
 -- the kind whose letter a byte is
 abbrev pub kindOf : ℕ → Option Kind
-kindOf l = named allKinds l
+kindOf l = kindAmong allKinds l
 
 -- a kind's number is its place in the table, from 1 on; 0 is no kind
 abbrev pub kindNumber : Option Kind → ℕ

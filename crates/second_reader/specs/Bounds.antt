@@ -6,7 +6,7 @@ use Rattle.second_reader.specs.declared.Tuple.{Tuple}
 use Rattle.second_reader.specs.declared.Seen.{Seen}
 
 -- a step from an offset: it goes forward, and not past the end
-pub record Stepped (from size : ℕ) (r : Step) : Type 0 where
+pub record Advanced (from size : ℕ) (r : Step) : Type 0 where
   pub number : r .number ≤ 6
   pub onward : from ≤ r .at
   pub within : r .at ≤ size

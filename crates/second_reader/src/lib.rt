@@ -15,7 +15,7 @@ ghost use mathlib.Core.Path.{_≡_};
 ghost use mathlib.Core.Bool.{true};
 ghost use Prim.Native.Nat.{ℕ, _+_, _≤_, _<_};
 ghost use lib.ListN.{length};
-ghost use Rattle.second_reader.specs.Bounds.{Stepped, Tupled, Kept, Answered};
+ghost use Rattle.second_reader.specs.Bounds.{Advanced, Tupled, Kept, Answered};
 
 mod values;
 
@@ -162,7 +162,7 @@ fn refusal_of(code: u8) -> u8
 // A field of one number or letter.
 fn number(s: &[u8], at: usize, code: u8) -> Step
     requires { ⌜ at ≤ length (now s) ⌝ }
-    ensures { λ r. ⌜ Stepped at (length (now (s .entry))) r ⌝ }
+    ensures { λ r. ⌜ Advanced at (length (now (s .entry))) r ⌝ }
     ensures { λ r. ⌜ (code ≡ 99 → r .value ≤ 1600) ⌝ }
 {
     let width = width_of(code);
@@ -184,7 +184,7 @@ fn number(s: &[u8], at: usize, code: u8) -> Step
 // A text, its zero byte included.
 fn text(s: &[u8], at: usize) -> Step
     requires { ⌜ at ≤ length (now s) ⌝ }
-    ensures { λ r. ⌜ Stepped at (length (now (s .entry))) r ⌝ }
+    ensures { λ r. ⌜ Advanced at (length (now (s .entry))) r ⌝ }
 {
     let mut end = at;
     while end < s.len() {
@@ -203,7 +203,7 @@ fn text(s: &[u8], at: usize) -> Step
 // A length and that many bytes.
 fn sized(s: &[u8], at: usize) -> Step
     requires { ⌜ at ≤ length (now s) ⌝ }
-    ensures { λ r. ⌜ Stepped at (length (now (s .entry))) r ⌝ }
+    ensures { λ r. ⌜ Advanced at (length (now (s .entry))) r ⌝ }
     ensures { λ r. ⌜ at + r .value ≤ r .at ⌝ }
 {
     let length = number(s, at, b'w');
@@ -228,7 +228,7 @@ fn sized(s: &[u8], at: usize) -> Step
 // A column of a tuple.
 fn column(s: &[u8], at: usize) -> Step
     requires { ⌜ at ≤ length (now s) ⌝ }
-    ensures { λ r. ⌜ Stepped at (length (now (s .entry))) r ⌝ }
+    ensures { λ r. ⌜ Advanced at (length (now (s .entry))) r ⌝ }
     ensures { λ r. ⌜ at + r .value ≤ r .at ⌝ }
 {
     if s.len() <= at {
@@ -248,7 +248,7 @@ fn column(s: &[u8], at: usize) -> Step
 // A field that is no tuple.
 fn plain(s: &[u8], at: usize, code: u8) -> Step
     requires { ⌜ at ≤ length (now s) ⌝ }
-    ensures { λ r. ⌜ Stepped at (length (now (s .entry))) r ⌝ }
+    ensures { λ r. ⌜ Advanced at (length (now (s .entry))) r ⌝ }
 {
     match code {
         b's' => text(s, at),
@@ -308,7 +308,7 @@ pub fn read_tuple(s: &[u8], start: usize) -> Tuple
 // Fields whose values are not kept, only summed.
 fn passed(s: &[u8], from: usize, codes: &[u8]) -> Step
     requires { ⌜ from ≤ length (now s) ⌝ }
-    ensures { λ r. ⌜ Stepped from (length (now (s .entry))) r ⌝ }
+    ensures { λ r. ⌜ Advanced from (length (now (s .entry))) r ⌝ }
 {
     let mut at = from;
     let mut value: u64 = 0;
@@ -332,7 +332,7 @@ fn passed(s: &[u8], from: usize, codes: &[u8]) -> Step
 // Such fields, several times over.
 fn repeated(s: &[u8], from: usize, codes: &[u8], times: u64) -> Step
     requires { ⌜ from ≤ length (now s) ⌝ }
-    ensures { λ r. ⌜ Stepped from (length (now (s .entry))) r ⌝ }
+    ensures { λ r. ⌜ Advanced from (length (now (s .entry))) r ⌝ }
 {
     let mut at = from;
     let mut value: u64 = 0;
@@ -356,7 +356,7 @@ fn repeated(s: &[u8], from: usize, codes: &[u8], times: u64) -> Step
 // The fields that stand at any offset, several times over.
 pub fn read_at(s: &[u8], at: usize, codes: &[u8], times: u64) -> Step
     ensures { λ r. ⌜ r .number ≤ 6 ⌝ }
-    ensures { λ r. ⌜ (at ≤ length (now (s .entry)) → Stepped at (length (now (s .entry))) r) ⌝ }
+    ensures { λ r. ⌜ (at ≤ length (now (s .entry)) → Advanced at (length (now (s .entry))) r) ⌝ }
 {
     if s.len() < at {
         return ended(SHORT, at);

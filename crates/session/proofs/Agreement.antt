@@ -10,7 +10,7 @@ use Rattle.session.specs.declared.Place.the-variants.{Idle, Transaction,
 use Rattle.session.specs.declared.Answer.{Answer}
 use Rattle.session.specs.declared.Answer.the-variants as answer
 use Rattle.session.specs.Events.{Event, Begin, Commit, Origin, Relation, Change, Truncate, Neutral, Logical, StreamStart, StreamStop, StreamCommit, StreamAbort}
-use Rattle.session.specs.History.{unannounced, isAnnounced, orElse, Given, tagOf, shown, entry, History, place, isIdle, holderAt, isOpen, openCount, isChanged, held, liveCount}
+use Rattle.session.specs.History.{unannounced, isAnnounced, orElse, Given, tagOf, shown, entry, History, place, isIdle, holderAt, isOpen, openCount, isChanged, latest, liveCount}
 use Rattle.session.specs.Rules.{rooms, sightOf, test, ruleRelation, ruleStreamStart, ruleStreamEnd, judge, accepts}
 use Rattle.session.specs.State.{Layout, StateOf, freshBy, sightBy, changedAt, answerBy, flaggedAt, markedAt, streamsAfter, stateBy}
 use Rattle.wire.proofs.Tests.{not-true}
@@ -51,7 +51,7 @@ module _ (L : Layout) (laws : Lawful L) (s : StateOf (L .Rows)) (h : History) (a
     opened = a .streams .same;
     openCount = Streams.same-count (s .streams) h (a .streams);
     changed = ap (λ (p : Place). changedAt (s .changed) (s .streams) (holderAt p)) (a .at) ∙ same-changed (place h) (a .inside);
-    held = a .table .same;
+    latest = a .table .same;
     liveCount = sym (Live.live-used L laws (s .table) h (a .table));
   }
 
@@ -110,41 +110,41 @@ inside-proper h (Transaction l) w = tt
 inside-proper h (Block x) w = w .0
 
 -- what history holds after an announcement at a place
-pub held-relation : (h : History) (n i c : ℕ) (g : Given) (p : Place) → place h ≡ p → isIdle p ≡ false → Proper p → (t o : ℕ)
-    → held (entry (Relation n i c) g ∷ h) t o ≡ cond (eqb (holderAt p) t && eqb n o) (shown g i c) (held h t o)
-held-relation h n i c g Idle e b w t o = absurd (true≢false b)
-held-relation h n i c g (Transaction l) e b w t o = go (eqb t 0) refl
+pub latest-relation : (h : History) (n i c : ℕ) (g : Given) (p : Place) → place h ≡ p → isIdle p ≡ false → Proper p → (t o : ℕ)
+    → latest (entry (Relation n i c) g ∷ h) t o ≡ cond (eqb (holderAt p) t && eqb n o) (shown g i c) (latest h t o)
+latest-relation h n i c g Idle e b w t o = absurd (true≢false b)
+latest-relation h n i c g (Transaction l) e b w t o = go (eqb t 0) refl
   where
-    go : (v : Bool) → eqb t 0 ≡ v → held (entry (Relation n i c) g ∷ h) t o ≡ cond (eqb 0 t && eqb n o) (shown g i c) (held h t o)
+    go : (v : Bool) → eqb t 0 ≡ v → latest (entry (Relation n i c) g ∷ h) t o ≡ cond (eqb 0 t && eqb n o) (shown g i c) (latest h t o)
     go true k = rw (e, eqb-true t 0 k)
     go false k = rw (e, k, ne-eqb 0 t (λ z. eqb-false t 0 k (sym z)))
-held-relation h n i c g (Block x) e b w t o = go (eqb t 0) refl
+latest-relation h n i c g (Block x) e b w t o = go (eqb t 0) refl
   where
-    go : (v : Bool) → eqb t 0 ≡ v → held (entry (Relation n i c) g ∷ h) t o ≡ cond (eqb x t && eqb n o) (shown g i c) (held h t o)
+    go : (v : Bool) → eqb t 0 ≡ v → latest (entry (Relation n i c) g ∷ h) t o ≡ cond (eqb x t && eqb n o) (shown g i c) (latest h t o)
     go true k = rw (e, eqb-true t 0 k, ne-eqb x 0 w)
     go false k = rw (e, k)
 
 -- and after a commit
-held-commit : (h : History) (x : ℕ) (g : Given) → NonZero x → (t o : ℕ)
-    → held (entry (StreamCommit x) g ∷ h) t o ≡ cond (eqb t 0) (orElse (held h x o) (held h t o)) (cond (eqb x t) unannounced (held h t o))
-held-commit h x g f t o = go (eqb t 0) refl
+latest-commit : (h : History) (x : ℕ) (g : Given) → NonZero x → (t o : ℕ)
+    → latest (entry (StreamCommit x) g ∷ h) t o ≡ cond (eqb t 0) (orElse (latest h x o) (latest h t o)) (cond (eqb x t) unannounced (latest h t o))
+latest-commit h x g f t o = go (eqb t 0) refl
   where
-    go : (v : Bool) → eqb t 0 ≡ v → held (entry (StreamCommit x) g ∷ h) t o ≡ cond v (orElse (held h x o) (held h t o)) (cond (eqb x t) unannounced (held h t o))
+    go : (v : Bool) → eqb t 0 ≡ v → latest (entry (StreamCommit x) g ∷ h) t o ≡ cond v (orElse (latest h x o) (latest h t o)) (cond (eqb x t) unannounced (latest h t o))
     go true k = rw (k, ne-eqb x 0 f)
     go false k = rw k
 
 -- and after a full abort
-held-abort : (h : History) (x sub : ℕ) (g : Given) → eqb x sub ≡ true → NonZero x → (t o : ℕ) → held (entry (StreamAbort x sub) g ∷ h) t o ≡ cond (eqb x t) unannounced (held h t o)
-held-abort h x sub g e f t o = go (eqb t 0) refl
+latest-abort : (h : History) (x sub : ℕ) (g : Given) → eqb x sub ≡ true → NonZero x → (t o : ℕ) → latest (entry (StreamAbort x sub) g ∷ h) t o ≡ cond (eqb x t) unannounced (latest h t o)
+latest-abort h x sub g e f t o = go (eqb t 0) refl
   where
-    go : (v : Bool) → eqb t 0 ≡ v → held (entry (StreamAbort x sub) g ∷ h) t o ≡ cond (eqb x t) unannounced (held h t o)
+    go : (v : Bool) → eqb t 0 ≡ v → latest (entry (StreamAbort x sub) g ∷ h) t o ≡ cond (eqb x t) unannounced (latest h t o)
     go true k = rw (eqb-true t 0 k, ne-eqb x 0 f)
     go false k = rw (k, e)
 
 module _ (L : Layout) (laws : Lawful L) (s : StateOf (L .Rows)) (h : History) (a : Agrees L laws s h) where
   -- a message that leaves everything as it is
   quiet : (h' : History) → place h' ≡ place h → ((t : ℕ) → isOpen h' t ≡ isOpen h t) → ((t : ℕ) → isChanged h' t ≡ isChanged h t)
-      → ((t o : ℕ) → held h' t o ≡ held h t o) → Agrees L laws s h'
+      → ((t o : ℕ) → latest h' t o ≡ latest h t o) → Agrees L laws s h'
   quiet h' pl op ch hd = record {
     at = a .at ∙ sym pl;
     inside = rw pl (inside-kept h h' (place h) op (a .inside));
@@ -155,7 +155,7 @@ module _ (L : Layout) (laws : Lawful L) (s : StateOf (L .Rows)) (h : History) (a
 
   -- a change
   changing : (h' : History) → place h' ≡ place h → ((t : ℕ) → isOpen h' t ≡ isOpen h t) → ((t : ℕ) → isChanged h' t ≡ eqb (holderAt (place h)) t || isChanged h t)
-      → ((t o : ℕ) → held h' t o ≡ held h t o) → isIdle (place h) ≡ false
+      → ((t o : ℕ) → latest h' t o ≡ latest h t o) → isIdle (place h) ≡ false
       → Agrees L laws (record { place = s .place; changed = flaggedAt (s .place) (s .changed); streams = markedAt (s .place) (s .streams); table = s .table }) h'
   changing h' pl op ch hd b = record {
     at = a .at ∙ sym pl;
@@ -197,9 +197,9 @@ module _ (L : Layout) (laws : Lawful L) (s : StateOf (L .Rows)) (h : History) (a
     plain = a .plain;
     streams = Streams.unchanged (s .streams) h (entry (Relation n i c) g ∷ h) (a .streams) (λ t. refl) (λ t z. refl);
     table = rw (a .at) (Rows.putting L laws (s .table) h (entry (Relation n i c) g ∷ h) (a .table) (holderAt (place h)) n (tagOf g) i c f
-        (held-relation h n i c g (place h) refl (busy (place h) _ ok) (inside-proper h (place h) (a .inside)))
+        (latest-relation h n i c g (place h) refl (busy (place h) _ ok) (inside-proper h (place h) (a .inside)))
         (λ none. ap (leb 256) (sym (Live.live-used L laws (s .table) h (a .table)))
-        ∙ relation-accepted (place h) (isAnnounced (held h (holderAt (place h)) n)) (leb 256 (liveCount h)) ok (ap isAnnounced (sym (a .table .same (holderAt (place h)) n)) ∙ none)));
+        ∙ relation-accepted (place h) (isAnnounced (latest h (holderAt (place h)) n)) (leb 256 (liveCount h)) ok (ap isAnnounced (sym (a .table .same (holderAt (place h)) n)) ∙ none)));
   }
   kept (Change x o ts) g f ok = changing (entry (Change x o ts) g ∷ h) refl (λ t. refl) (λ t. refl) (λ t o. refl) (busy (place h) _ ok)
   kept (Truncate x os) g f ok = changing (entry (Truncate x os) g ∷ h) refl (λ t. refl) (λ t. refl) (λ t o. refl) (busy (place h) _ ok)
@@ -233,7 +233,7 @@ module _ (L : Layout) (laws : Lawful L) (s : StateOf (L .Rows)) (h : History) (a
     inside = idle-inside (entry (StreamCommit x) g ∷ h) (place h) (k .0);
     plain = a .plain;
     streams = Streams.closed (s .streams) h (a .streams) x f (entry (StreamCommit x) g ∷ h) (λ t. refl) (λ t. refl) (k .1);
-    table = Rows.releasing L laws (s .table) h (entry (StreamCommit x) g ∷ h) (a .table) x f (held-commit h x g f);
+    table = Rows.releasing L laws (s .table) h (entry (StreamCommit x) g ∷ h) (a .table) x f (latest-commit h x g f);
   }
   kept (StreamAbort x sub) g f ok = go (eqb x sub) refl
     where
@@ -243,6 +243,6 @@ module _ (L : Layout) (laws : Lawful L) (s : StateOf (L .Rows)) (h : History) (a
         inside = idle-inside (entry (StreamAbort x sub) g ∷ h) (place h) (k .0);
         plain = a .plain;
         streams = rw e (Streams.closed (s .streams) h (a .streams) x f (entry (StreamAbort x sub) g ∷ h) (λ t. rw e) (λ t. refl) (k .1));
-        table = rw e (Rows.dropping L laws (s .table) h (entry (StreamAbort x sub) g ∷ h) (a .table) x (λ t o. held-abort h x sub g e f t o));
+        table = rw e (Rows.dropping L laws (s .table) h (entry (StreamAbort x sub) g ∷ h) (a .table) x (λ t o. latest-abort h x sub g e f t o));
       }
       go false e = rw e (quiet (entry (StreamAbort x sub) g ∷ h) refl (λ t. rw e) (λ t. refl) (λ t o. rw e))

@@ -11,7 +11,7 @@ use Rattle.catalog.proofs.Tables.{same-eq, same-refl}
 use Rattle.catalog.proofs.Counting.{bit, length-by-counts}
 use Rattle.session.specs.declared.Place.{Place}
 use Rattle.session.specs.Events.{Event}
-use Rattle.session.specs.History.{Announced, isAnnounced, Given, entry, History, placeAfter, place, holderAt, openAfter, isOpen, started, openCount, changedAfter, isChanged, ownAfter, own, commonAfter, common, held, pairs, isLive, liveCount}
+use Rattle.session.specs.History.{Announced, isAnnounced, Given, entry, History, placeAfter, place, holderAt, openAfter, isOpen, started, openCount, changedAfter, isChanged, ownAfter, own, commonAfter, common, latest, pairs, isLive, liveCount}
 use Rattle.session.specs.Rules.{rooms, sightOf, judge}
 use Rattle.session.proofs.Streams.{open-tally}
 use Rattle.session.proofs.Live.{live-tally}
@@ -61,7 +61,7 @@ same-opens h k e =
     length-by-counts is is-eq is-refl (keep (isOpen h) (distinct is (started h))) (keep (isOpen k) (distinct is (started k)))
     (λ t. open-tally h t ∙ ap bit (e t) ∙ sym (open-tally k t))
 
-pub same-lives : (h k : History) → ((t o : ℕ) → isAnnounced (held h t o) ≡ isAnnounced (held k t o)) → liveCount h ≡ liveCount k
+pub same-lives : (h k : History) → ((t o : ℕ) → isAnnounced (latest h t o) ≡ isAnnounced (latest k t o)) → liveCount h ≡ liveCount k
 same-lives h k e = length-by-counts samePair same-eq same-refl (lives h) (lives k) each
   where
     lives : History → List Pair
@@ -72,18 +72,18 @@ same-lives h k e = length-by-counts samePair same-eq same-refl (lives h) (lives 
 
 -- THE SAME ANSWER
 
-pub same-held : (h k : History) (t o : ℕ) → own h t o ≡ own k t o → common h o ≡ common k o → held h t o ≡ held k t o
-same-held h k t o m c = ap₂ (λ (x y : Announced). cond (eqb t 0) x y) c m
+pub same-latest : (h k : History) (t o : ℕ) → own h t o ≡ own k t o → common h o ≡ common k o → latest h t o ≡ latest k t o
+same-latest h k t o m c = ap₂ (λ (x y : Announced). cond (eqb t 0) x y) c m
 
 module _ {h k : History} (a : Alike h k) where
-  each-held : (t o : ℕ) → held h t o ≡ held k t o
-  each-held t o = same-held h k t o (a .each t .mine o) (a .shared o)
+  each-latest : (t o : ℕ) → latest h t o ≡ latest k t o
+  each-latest t o = same-latest h k t o (a .each t .mine o) (a .shared o)
 
   pub alike-opens : openCount h ≡ openCount k
   alike-opens = same-opens h k (λ t. a .each t .opened)
 
   pub alike-lives : liveCount h ≡ liveCount k
-  alike-lives = same-lives h k (λ t o. ap isAnnounced (each-held t o))
+  alike-lives = same-lives h k (λ t o. ap isAnnounced (each-latest t o))
 
   pub alike-judged : (e : Event) → judge rooms h e ≡ judge rooms k e
   alike-judged = same-judged rooms (sightOf h) (sightOf k) (record {
@@ -91,6 +91,6 @@ module _ {h k : History} (a : Alike h k) where
     opened = λ t. a .each t .opened;
     openCount = alike-opens;
     changed = a .each (holderAt (place h)) .changed ∙ ap (λ (p : Place). isChanged k (holderAt p)) (a .at);
-    held = each-held;
+    latest = each-latest;
     liveCount = alike-lives;
   })

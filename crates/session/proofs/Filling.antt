@@ -17,7 +17,7 @@ use Rattle.session.specs.declared.Place.{Place}
 use Rattle.session.specs.declared.Place.the-variants.{Idle, Block}
 use Rattle.session.specs.declared.Answer.the-variants as answer
 use Rattle.session.specs.Events.{Event, Origin, Relation, Change, Truncate, Neutral, Logical, StreamStart, StreamStop}
-use Rattle.session.specs.History.{Announced, isAnnounced, orElse, Given, entry, Entry, History, shown, place, isOpen, started, openCount, common, held, pairs, isLive, liveCount}
+use Rattle.session.specs.History.{Announced, isAnnounced, orElse, Given, entry, Entry, History, shown, place, isOpen, started, openCount, common, latest, pairs, isLive, liveCount}
 use Rattle.session.specs.Rules.{rooms, sightOf, visible, ruleOrigin, ruleChange, ruleTruncate, ruleNeutral, ruleLogical, ruleStreamStop, judge, accepts}
 use Rattle.session.specs.State.{State, sorted}
 use Rattle.session.proofs.Formed.{NonZero}
@@ -25,9 +25,9 @@ use Rattle.session.proofs.Streams as Streams
 use Rattle.session.proofs.Streams.{open-tally}
 use Rattle.session.proofs.Lawful.{sorted-lawful, sorted-sound}
 use Rattle.session.proofs.Live.{live-tally, live-used}
-use Rattle.session.proofs.Agreement.{held-relation, start-accepted, relation-accepted}
+use Rattle.session.proofs.Agreement.{latest-relation, start-accepted, relation-accepted}
 use Rattle.session.proofs.Runs.{Agrees}
-use Rattle.session.proofs.Alike.{AlikeAt, Alike, same-opens, same-lives, same-held, alike-opens, alike-lives}
+use Rattle.session.proofs.Alike.{AlikeAt, Alike, same-opens, same-lives, same-latest, alike-opens, alike-lives}
 use Rattle.session.proofs.Stays.{Inner, origin, relation, change, truncate, neutral, logical, stop, Turn, starts, goes, onto, Along}
 
 -- THE ROOMS HOLD OUT
@@ -66,21 +66,21 @@ module _ (x : ℕ) (nz : NonZero x) (h : History) (p : place h ≡ Block x) (n i
   announced' = entry (Relation n i c) g ∷ h
 
   -- which pairs are live then
-  live-then : (t o : ℕ) → isAnnounced (held announced' t o) ≡ (eqb x t && eqb n o) || isAnnounced (held h t o)
-  live-then t o = ap isAnnounced (held-relation h n i c g (Block x) p refl nz t o) ∙ go (eqb x t && eqb n o)
+  live-then : (t o : ℕ) → isAnnounced (latest announced' t o) ≡ (eqb x t && eqb n o) || isAnnounced (latest h t o)
+  live-then t o = ap isAnnounced (latest-relation h n i c g (Block x) p refl nz t o) ∙ go (eqb x t && eqb n o)
     where
-      go : (v : Bool) → isAnnounced (cond v (shown g i c) (held h t o)) ≡ v || isAnnounced (held h t o)
+      go : (v : Bool) → isAnnounced (cond v (shown g i c) (latest h t o)) ≡ v || isAnnounced (latest h t o)
       go true = refl
       go false = refl
 
-  one-lives : isAnnounced (held h x n) ≡ false → liveCount announced' ≡ suc (liveCount h)
+  one-lives : isAnnounced (latest h x n) ≡ false → liveCount announced' ≡ suc (liveCount h)
   one-lives new = length-by-counts samePair same-eq same-refl (listed announced') (pair x n ∷ listed h) each
     where
       listed : History → List Pair
       listed k = keep (isLive k) (distinct samePair (pairs k))
 
-      go : (t o : ℕ) (u v : Bool) → eqb x t ≡ u → eqb n o ≡ v → bit ((eqb x t && eqb n o) || isAnnounced (held h t o)) ≡ cond (eqb x t && eqb n o) 1 0 + bit (isAnnounced (held h t o))
-      go t o true true eu ev = let s : isAnnounced (held h t o) ≡ false = rw (eqb-true x t eu, eqb-true n o ev) at new in rw (eu, ev, s)
+      go : (t o : ℕ) (u v : Bool) → eqb x t ≡ u → eqb n o ≡ v → bit ((eqb x t && eqb n o) || isAnnounced (latest h t o)) ≡ cond (eqb x t && eqb n o) 1 0 + bit (isAnnounced (latest h t o))
+      go t o true true eu ev = let s : isAnnounced (latest h t o) ≡ false = rw (eqb-true x t eu, eqb-true n o ev) at new in rw (eu, ev, s)
       go t o true false eu ev = rw (eu, ev) (omega arith)
       go t o false v eu ev = rw eu (omega arith)
 
@@ -89,25 +89,25 @@ module _ (x : ℕ) (nz : NonZero x) (h : History) (p : place h ≡ Block x) (n i
           live-tally announced' t o ∙ ap bit (live-then t o) ∙ go t o (eqb x t) (eqb n o) refl refl
           ∙ ap (λ (m : ℕ). cond (eqb x t && eqb n o) 1 0 + m) (sym (live-tally h t o))
 
-  lives-again : isAnnounced (held h x n) ≡ true → liveCount announced' ≡ liveCount h
+  lives-again : isAnnounced (latest h x n) ≡ true → liveCount announced' ≡ liveCount h
   lives-again old = same-lives announced' h (λ t o. live-then t o ∙ go t o (eqb x t) (eqb n o) refl refl)
     where
-      go : (t o : ℕ) (u v : Bool) → eqb x t ≡ u → eqb n o ≡ v → (eqb x t && eqb n o) || isAnnounced (held h t o) ≡ isAnnounced (held h t o)
-      go t o true true eu ev = let s : isAnnounced (held h t o) ≡ true = rw (eqb-true x t eu, eqb-true n o ev) at old in rw (eu, ev, s)
+      go : (t o : ℕ) (u v : Bool) → eqb x t ≡ u → eqb n o ≡ v → (eqb x t && eqb n o) || isAnnounced (latest h t o) ≡ isAnnounced (latest h t o)
+      go t o true true eu ev = let s : isAnnounced (latest h t o) ≡ true = rw (eqb-true x t eu, eqb-true n o ev) at old in rw (eu, ev, s)
       go t o true false eu ev = rw (eu, ev)
       go t o false v eu ev = rw eu
 
 -- IN A BLOCK THE ROOMS ONLY FILL
 
-unmoved : (h k : History) → ((t : ℕ) → isOpen h t ≡ isOpen k t) → ((t o : ℕ) → isAnnounced (held h t o) ≡ isAnnounced (held k t o)) → Within k → Within h
+unmoved : (h k : History) → ((t : ℕ) → isOpen h t ≡ isOpen k t) → ((t o : ℕ) → isAnnounced (latest h t o) ≡ isAnnounced (latest k t o)) → Within k → Within h
 unmoved h k op li w = record { streams = omega (arith, same-opens h k op, w .streams); announcements = omega (arith, same-lives h k li, w .announcements) }
 
 module _ (x : ℕ) (nz : NonZero x) where
   inner-fills : (h : History) (g : Given) → place h ≡ Block x → {e : Event} → Inner e → Within (entry e g ∷ h) → Within h
   inner-fills h g p origin w = unmoved h (entry Origin g ∷ h) (λ t. refl) (λ t o. refl) w
-  inner-fills h g p (relation {o} {i} {c}) w = record { streams = omega (arith, same-opens h (entry (Relation o i c) g ∷ h) (λ t. refl), w .streams); announcements = go (isAnnounced (held h x o)) refl }
+  inner-fills h g p (relation {o} {i} {c}) w = record { streams = omega (arith, same-opens h (entry (Relation o i c) g ∷ h) (λ t. refl), w .streams); announcements = go (isAnnounced (latest h x o)) refl }
     where
-      go : (v : Bool) → isAnnounced (held h x o) ≡ v → liveCount h ≤ 256
+      go : (v : Bool) → isAnnounced (latest h x o) ≡ v → liveCount h ≤ 256
       go true e = omega (arith, lives-again x nz h p o i c g e, w .announcements)
       go false e = omega (arith, one-lives x nz h p o i c g e, w .announcements)
   inner-fills h g p (change {y} {o} {ts}) w = unmoved h (entry (Change y o ts) g ∷ h) (λ t. refl) (λ t o. refl) w
@@ -138,25 +138,25 @@ opens : (x : ℕ) (first : Bool) (h : History) → place h ≡ Idle → isOpen h
 opens x true h p e r = rw (p, e, r refl)
 opens x false h p e r = rw (p, e)
 
-announces : (x : ℕ) (h : History) → place h ≡ Block x → (n i c : ℕ) → (isAnnounced (held h x n) ≡ false → leb 256 (liveCount h) ≡ false) → judge rooms h (Relation n i c) ≡ answer.Accepted
-announces x h p n i c r = go (isAnnounced (held h x n)) refl
+announces : (x : ℕ) (h : History) → place h ≡ Block x → (n i c : ℕ) → (isAnnounced (latest h x n) ≡ false → leb 256 (liveCount h) ≡ false) → judge rooms h (Relation n i c) ≡ answer.Accepted
+announces x h p n i c r = go (isAnnounced (latest h x n)) refl
   where
-    go : (v : Bool) → isAnnounced (held h x n) ≡ v → judge rooms h (Relation n i c) ≡ answer.Accepted
+    go : (v : Bool) → isAnnounced (latest h x n) ≡ v → judge rooms h (Relation n i c) ≡ answer.Accepted
     go true e = rw (p, e)
     go false e = rw (p, e, r e)
 
 -- from two histories that are alike at x, where the rooms hold out behind the second
 module _ (x : ℕ) (nz : NonZero x) (h k : History) (g : Given) (a : AlikeAt x h k) (c : (o : ℕ) → common h o ≡ common k o) where
-  held-there : (o : ℕ) → held h x o ≡ held k x o
-  held-there o = same-held h k x o (a .mine o) (c o)
+  latest-there : (o : ℕ) → latest h x o ≡ latest k x o
+  latest-there o = same-latest h k x o (a .mine o) (c o)
 
   seen : place h ≡ Block x → place k ≡ Block x → (o : ℕ) → visible (sightOf h) o ≡ visible (sightOf k) o
-  seen p q o = rw (p, q) (ap₂ orElse (held-there o) (c o))
+  seen p q o = rw (p, q) (ap₂ orElse (latest-there o) (c o))
 
   inner-same : place h ≡ Block x → place k ≡ Block x → {e : Event} → Inner e → accepts (judge rooms h e) ≡ true → Within (entry e g ∷ k) → judge rooms h e ≡ judge rooms k e
   inner-same p q origin ok w = rw (p, q) (ap (ruleOrigin (Block x)) (a .changed))
   inner-same p q (relation {o} {i} {c = n}) ok w =
-      announces x h p o i n (relation-accepted (Block x) (isAnnounced (held h x o)) (leb 256 (liveCount h)) (rw p at ok))
+      announces x h p o i n (relation-accepted (Block x) (isAnnounced (latest h x o)) (leb 256 (liveCount h)) (rw p at ok))
       ∙ sym (announces x k q o i n (λ e. lt-leb 256 (liveCount k) (omega (arith, one-lives x nz k q o i n g e, w .announcements))))
   inner-same p q (change {y} {o} {ts}) ok w = ap₂ (λ (r : Place) (s : Announced). ruleChange r s ts) (p ∙ sym q) (seen p q o)
   inner-same p q (truncate {y} {os}) ok w = ap₂ (λ (r : Place) (s : ℕ → Announced). ruleTruncate r s os) (p ∙ sym q) (fun-ext (seen p q))

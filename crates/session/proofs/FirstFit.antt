@@ -112,8 +112,8 @@ module _ (l : List Row) (a : Table l) where
     put-sound : Table (putRow (row x n g i c) l)
     put-sound = law.put-table (row x n g i c) l free a
 
-    put-held : (t o : ℕ) → found (putRow (row x n g i c) l) t o ≡ cond (eqb x t && eqb n o) (announced g i c) (found l t o)
-    put-held t o =
+    put-latest : (t o : ℕ) → found (putRow (row x n g i c) l) t o ≡ cond (eqb x t && eqb n o) (announced g i c) (found l t o)
+    put-latest t o =
         by-oid (λ after mine was. after ≡ cond (eqb x t && eqb n o) (announced g i c) was) l (putRow (row x n g i c) l) x t o
         (λ y. law.put-found (row x n g i c) l free t o y)
         (λ e. rw (ne-eqb n o (λ q. z .0 (q ∙ e))) (never (eqb x t)))
@@ -122,13 +122,13 @@ module _ (l : List Row) (a : Table l) where
         never true = refl
         never false = refl
 
-  drop-held : (x t o : ℕ) → found (change (dropped x) l) t o ≡ cond (eqb x t) unannounced (found l t o)
-  drop-held x t o =
+  drop-latest : (x t o : ℕ) → found (change (dropped x) l) t o ≡ cond (eqb x t) unannounced (found l t o)
+  drop-latest x t o =
       by-oid (λ after mine was. after ≡ cond (eqb x t) unannounced was) l (change (dropped x) l) x t o (λ y. law.drop-found x l t o y) (λ e. sym (missing (eqb x t)))
 
-  release-held : (x : ℕ) → NonZero x → (t o : ℕ)
+  release-latest : (x : ℕ) → NonZero x → (t o : ℕ)
       → found (change (released x l) l) t o ≡ cond (eqb t 0) (orElse (found l x o) (found l t o)) (cond (eqb x t) unannounced (found l t o))
-  release-held x nz t o =
+  release-latest x nz t o =
       by-oid (λ after mine was. after ≡ cond (eqb t 0) (orElse mine was) (cond (eqb x t) unannounced was)) l (change (released x l) l) x t o
       (λ y. go y (eqb t 0) (eqb x t) refl refl)
       (λ e. sym (none (eqb t 0) (eqb x t)))
@@ -204,13 +204,13 @@ pub guarded-lawful : Lawful guarded
 guarded-lawful = record {
   Sound = Table;
   fresh-sound = fresh-table;
-  fresh-held = λ t o. by-oid (λ after mine was. after ≡ unannounced) (replicate 256 freeRow) (replicate 256 freeRow) t t o (λ z. fresh-found 256 t o z) (λ e. refl);
+  fresh-latest = λ t o. by-oid (λ after mine was. after ≡ unannounced) (replicate 256 freeRow) (replicate 256 freeRow) t t o (λ z. fresh-found 256 t o z) (λ e. refl);
   put-sound = put-sound;
-  put-held = put-held;
+  put-latest = put-latest;
   drop-sound = λ r a x. law.drop-table x r a;
-  drop-held = drop-held;
+  drop-latest = drop-latest;
   release-sound = λ r a x z. law.release-table x r z a;
-  release-held = release-held;
+  release-latest = release-latest;
   used-by-counts = used-by-counts;
 }
 

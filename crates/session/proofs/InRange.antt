@@ -84,7 +84,7 @@ module _ (end : ℕ) where
   judged-told r s (Commit lsn) = let t = eqb lsn (finalLsn (s .place)) in placed-told (inTransaction (s .place)) (test t 8 answer.Accepted) (open-told t)
   judged-told r s Origin = placed-told (not (isIdle (s .place)) && not (s .changed (holderAt (s .place)))) answer.Accepted tt
   judged-told r s (Relation o i c) =
-      let t = isAnnounced (s .held (holderAt (s .place)) o) || not (leb (r .announcements) (s .liveCount)) in
+      let t = isAnnounced (s .latest (holderAt (s .place)) o) || not (leb (r .announcements) (s .liveCount)) in
       placed-told (not (isIdle (s .place))) (test t 11 answer.Accepted) (test-told t 11 (omega arith) (omega arith))
   judged-told r s (Change x o ts) = placed-told (not (isIdle (s .place))) (shaped (visible s o) ts) (shaped-told (visible s o) ts)
   judged-told r s (Truncate x os) =

@@ -19,17 +19,17 @@ pub record Lawful (L : Layout) : Type 1 where
   -- what holds of the table of every session that was started fresh
   pub Sound : L .Rows → Type 0
   pub fresh-sound : Sound (L .none)
-  pub fresh-held : (t o : ℕ) → L .find (L .none) t o ≡ unannounced
+  pub fresh-latest : (t o : ℕ) → L .find (L .none) t o ≡ unannounced
   -- an announcement, where there is room
   pub put-sound : (r : L .Rows) → Sound r → (x n g i c : ℕ) → Id n → (isAnnounced (L .find r x n) ≡ false → leb 256 (L .used r) ≡ false) → Sound (L .put r x n g i c)
-  pub put-held : (r : L .Rows) → Sound r → (x n g i c : ℕ) → Id n → (isAnnounced (L .find r x n) ≡ false → leb 256 (L .used r) ≡ false) → (t o : ℕ)
+  pub put-latest : (r : L .Rows) → Sound r → (x n g i c : ℕ) → Id n → (isAnnounced (L .find r x n) ≡ false → leb 256 (L .used r) ≡ false) → (t o : ℕ)
       → L .find (L .put r x n g i c) t o ≡ cond (eqb x t && eqb n o) (announced g i c) (L .find r t o)
   -- a holder is gone
   pub drop-sound : (r : L .Rows) → Sound r → (x : ℕ) → Sound (L .discard r x)
-  pub drop-held : (r : L .Rows) → Sound r → (x t o : ℕ) → L .find (L .discard r x) t o ≡ cond (eqb x t) unannounced (L .find r t o)
+  pub drop-latest : (r : L .Rows) → Sound r → (x t o : ℕ) → L .find (L .discard r x) t o ≡ cond (eqb x t) unannounced (L .find r t o)
   -- a holder's become common
   pub release-sound : (r : L .Rows) → Sound r → (x : ℕ) → NonZero x → Sound (L .release r x)
-  pub release-held : (r : L .Rows) → Sound r → (x : ℕ) → NonZero x → (t o : ℕ)
+  pub release-latest : (r : L .Rows) → Sound r → (x : ℕ) → NonZero x → (t o : ℕ)
       → L .find (L .release r x) t o ≡ cond (eqb t 0) (orElse (L .find r x o) (L .find r t o)) (cond (eqb x t) unannounced (L .find r t o))
   -- how many: as long as a list that has each pair that is found, once, and no other
   pub used-by-counts : (r : L .Rows) → Sound r → (l : List Pair) → ((t o : ℕ) → tally (samePair (pair t o)) l ≡ bit (isAnnounced (L .find r t o))) → length l ≡ L .used r
@@ -53,17 +53,17 @@ module _ (r : Table) (a : law.Sound r) where
   room-is : (x n : ℕ) → (isAnnounced (heldIn r x n) ≡ false → leb 256 (usedIn r) ≡ false) → isFound (lookup r x n) ≡ false → leb 256 (usedIn r) ≡ false
   room-is x n room e = room (seen-found (lookup r x n) ∙ e)
 
-  put-held : (x n g i c : ℕ) → Id n → (isAnnounced (heldIn r x n) ≡ false → leb 256 (usedIn r) ≡ false) → (t o : ℕ)
+  put-latest : (x n g i c : ℕ) → Id n → (isAnnounced (heldIn r x n) ≡ false → leb 256 (usedIn r) ≡ false) → (t o : ℕ)
       → heldIn (putIn r x n g i c) t o ≡ cond (eqb x t && eqb n o) (announced g i c) (heldIn r t o)
-  put-held x n g i c z room t o =
+  put-latest x n g i c z room t o =
       ap announcedBy (law.put-lookup r a x n g i c (z .1) (room-is x n room) t o) ∙ seen-cond (eqb x t && eqb n o) (Found g i c) (lookup r t o)
 
-  drop-held : (x t o : ℕ) → heldIn (dropIn r x) t o ≡ cond (eqb x t) unannounced (heldIn r t o)
-  drop-held x t o = ap announcedBy (law.drop-lookup r a x t o) ∙ seen-cond (eqb x t) Missing (lookup r t o)
+  drop-latest : (x t o : ℕ) → heldIn (dropIn r x) t o ≡ cond (eqb x t) unannounced (heldIn r t o)
+  drop-latest x t o = ap announcedBy (law.drop-lookup r a x t o) ∙ seen-cond (eqb x t) Missing (lookup r t o)
 
-  release-held : (x : ℕ) → NonZero x → (t o : ℕ)
+  release-latest : (x : ℕ) → NonZero x → (t o : ℕ)
       → heldIn (releaseIn r x) t o ≡ cond (eqb t 0) (orElse (heldIn r x o) (heldIn r t o)) (cond (eqb x t) unannounced (heldIn r t o))
-  release-held x z t o =
+  release-latest x z t o =
       ap announcedBy (law.release-lookup r a x z t o)
       ∙ seen-cond (eqb t 0) (or (lookup r x o) (lookup r t o)) (cond (eqb x t) Missing (lookup r t o))
       ∙ ap₂ (cond (eqb t 0)) (seen-or (lookup r x o) (lookup r t o)) (seen-cond (eqb x t) Missing (lookup r t o))
@@ -72,13 +72,13 @@ pub sorted-lawful : Lawful sorted
 sorted-lawful = record {
   Sound = law.Sound;
   fresh-sound = law.fresh-sound;
-  fresh-held = λ t o. ap announcedBy (law.fresh-lookup t o);
+  fresh-latest = λ t o. ap announcedBy (law.fresh-lookup t o);
   put-sound = λ r a x n g i c z room. law.put-sound r a x n g i c (z .1) (room-is r a x n room);
-  put-held = put-held;
+  put-latest = put-latest;
   drop-sound = law.drop-sound;
-  drop-held = drop-held;
+  drop-latest = drop-latest;
   release-sound = λ r a x z. law.release-sound r a x;
-  release-held = release-held;
+  release-latest = release-latest;
   used-by-counts = λ r a l counts. law.used-by-counts r a l (λ t o. counts t o ∙ ap bit (seen-found (lookup r t o)));
 }
 

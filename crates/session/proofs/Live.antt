@@ -10,7 +10,7 @@ use Rattle.catalog.proofs.Tables.{same-eq, same-refl}
 use Rattle.catalog.proofs.Counting.{bit, tally-keep, tally-distinct}
 use Rattle.session.specs.declared.Place.{Place}
 use Rattle.session.specs.Events.{Begin, Commit, Origin, Relation, Change, Truncate, Neutral, Logical, StreamStart, StreamStop, StreamCommit, StreamAbort}
-use Rattle.session.specs.History.{Announced, unannounced, announced, isAnnounced, orElse, entry, History, shown, place, inBlock, inTransaction, holderAt, own, common, held, pairs, isLive, liveCount}
+use Rattle.session.specs.History.{Announced, unannounced, announced, isAnnounced, orElse, entry, History, shown, place, inBlock, inTransaction, holderAt, own, common, latest, pairs, isLive, liveCount}
 use Rattle.session.specs.State.{Layout}
 use Rattle.wire.proofs.Tests.{and-parts}
 use Rattle.session.proofs.Lawful.{Lawful}
@@ -98,7 +98,7 @@ common-pairs (entry (StreamCommit x) g ∷ h) o e = go (own h x o) refl e (commo
     go (announced a b c) w k r = own-pairs h x o (ap isAnnounced w) .1
 common-pairs (entry (StreamAbort x sub) g ∷ h) o e = common-pairs h o e
 
-live-pairs : (h : History) (t o : ℕ) → isAnnounced (held h t o) ≡ true → any (samePair (pair t o)) (pairs h) ≡ true
+live-pairs : (h : History) (t o : ℕ) → isAnnounced (latest h t o) ≡ true → any (samePair (pair t o)) (pairs h) ≡ true
 live-pairs h t o e = go (eqb t 0) refl
   where
     go : (v : Bool) → eqb t 0 ≡ v → any (samePair (pair t o)) (pairs h) ≡ true
@@ -107,13 +107,13 @@ live-pairs h t o e = go (eqb t 0) refl
 
 -- THE ROOM: the live pairs, each once
 
-pub live-tally : (h : History) (t o : ℕ) → tally (samePair (pair t o)) (keep (isLive h) (distinct samePair (pairs h))) ≡ bit (isAnnounced (held h t o))
+pub live-tally : (h : History) (t o : ℕ) → tally (samePair (pair t o)) (keep (isLive h) (distinct samePair (pairs h))) ≡ bit (isAnnounced (latest h t o))
 live-tally h t o =
     tally-keep samePair same-eq same-refl (isLive h) (pair t o) (distinct samePair (pairs h))
-    ∙ ap (λ (n : ℕ). cond (isAnnounced (held h t o)) n 0) (tally-distinct samePair same-eq same-refl (pair t o) (pairs h))
-    ∙ go (isAnnounced (held h t o)) refl
+    ∙ ap (λ (n : ℕ). cond (isAnnounced (latest h t o)) n 0) (tally-distinct samePair same-eq same-refl (pair t o) (pairs h))
+    ∙ go (isAnnounced (latest h t o)) refl
   where
-    go : (v : Bool) → isAnnounced (held h t o) ≡ v → cond v (bit (any (samePair (pair t o)) (pairs h))) 0 ≡ bit v
+    go : (v : Bool) → isAnnounced (latest h t o) ≡ v → cond v (bit (any (samePair (pair t o)) (pairs h))) 0 ≡ bit v
     go true e = rw (live-pairs h t o e)
     go false e = refl
 

@@ -15,17 +15,17 @@ pub record Same (a b : Sight) : Type 0 where
   pub opened : (t : ℕ) → a .opened t ≡ b .opened t
   pub openCount : a .openCount ≡ b .openCount
   pub changed : a .changed (holderAt (a .place)) ≡ b .changed (holderAt (b .place))
-  pub held : (t o : ℕ) → a .held t o ≡ b .held t o
+  pub latest : (t o : ℕ) → a .latest t o ≡ b .latest t o
   pub liveCount : a .liveCount ≡ b .liveCount
 
 module _ (r : Rooms) (a b : Sight) (s : Same a b) where
   same-visible : (o : ℕ) → visible a o ≡ visible b o
-  same-visible o = ap (λ (p : Place). visibleAt p (λ t. a .held t o)) (s .place) ∙ go (b .place)
+  same-visible o = ap (λ (p : Place). visibleAt p (λ t. a .latest t o)) (s .place) ∙ go (b .place)
     where
-      go : (p : Place) → visibleAt p (λ t. a .held t o) ≡ visibleAt p (λ t. b .held t o)
+      go : (p : Place) → visibleAt p (λ t. a .latest t o) ≡ visibleAt p (λ t. b .latest t o)
       go Idle = refl
-      go (Transaction l) = s .held 0 o
-      go (Block x) = ap₂ orElse (s .held x o) (s .held 0 o)
+      go (Transaction l) = s .latest 0 o
+      go (Block x) = ap₂ orElse (s .latest x o) (s .latest 0 o)
 
   all-visible : (os : List ℕ) → allSeen (visible a) os ≡ allSeen (visible b) os
   all-visible [] = refl
@@ -36,8 +36,8 @@ module _ (r : Rooms) (a b : Sight) (s : Same a b) where
   first-visible (o ∷ os) = same-visible o
 
   -- whether the holder of the place has an announcement
-  same-live : (o : ℕ) → isAnnounced (a .held (holderAt (a .place)) o) ≡ isAnnounced (b .held (holderAt (b .place)) o)
-  same-live o = ap isAnnounced (s .held (holderAt (a .place)) o ∙ ap (λ (p : Place). b .held (holderAt p) o) (s .place))
+  same-live : (o : ℕ) → isAnnounced (a .latest (holderAt (a .place)) o) ≡ isAnnounced (b .latest (holderAt (b .place)) o)
+  same-live o = ap isAnnounced (s .latest (holderAt (a .place)) o ∙ ap (λ (p : Place). b .latest (holderAt p) o) (s .place))
 
   pub same-judged : (e : Event) → judgeBy r a e ≡ judgeBy r b e
   same-judged (Begin l x) = ap₂ ruleBegin (s .place) (s .opened x)

@@ -199,8 +199,8 @@ common [] oid = unannounced
 common (entry e g ∷ h) oid = commonAfter e g (place h) (λ t. own h t oid) oid (common h oid)
 
 -- a holder's announcement of an OID
-abbrev pub held : History → ℕ → ℕ → Announced
-held h t oid = cond (eqb t 0) (common h oid) (own h t oid)
+abbrev pub latest : History → ℕ → ℕ → Announced
+latest h t oid = cond (eqb t 0) (common h oid) (own h t oid)
 
 -- ROOM
 
@@ -225,7 +225,7 @@ pairs (entry e g ∷ h) = pairsAfter e (place h) (pairs h)
 
 -- LIVE: the holder has an announcement of the OID
 abbrev pub isLive : History → Pair → Bool
-isLive h (pair t o) = isAnnounced (held h t o)
+isLive h (pair t o) = isAnnounced (latest h t o)
 
 -- how many announcements are live: the distinct pairs
 abbrev pub liveCount : History → ℕ

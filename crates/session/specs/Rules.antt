@@ -12,7 +12,7 @@ use Rattle.session.specs.declared.Place.the-variants.{Idle, Transaction,
 use Rattle.session.specs.declared.Answer.{Answer}
 use Rattle.session.specs.declared.Answer.the-variants as answer
 use Rattle.session.specs.Events.{Event, Begin, Commit, Origin, Relation, Change, Truncate, Neutral, Logical, StreamStart, StreamStop, StreamCommit, StreamAbort, Tuple, tuple, eventOf}
-use Rattle.session.specs.History.{Given, given, entry, Announced, unannounced, announced, isAnnounced, orElse, History, place, isIdle, inTransaction, inBlock, finalLsn, holderAt, isOpen, openCount, isChanged, held, liveCount}
+use Rattle.session.specs.History.{Given, given, entry, Announced, unannounced, announced, isAnnounced, orElse, History, place, isIdle, inTransaction, inBlock, finalLsn, holderAt, isOpen, openCount, isChanged, latest, liveCount}
 
 -- THE ROOMS: how many announcements may be live, and how many streamed transactions open
 pub record Rooms : Type 0 where
@@ -30,12 +30,12 @@ pub record Sight : Type 0 where
   pub opened : ℕ → Bool
   pub openCount : ℕ
   pub changed : ℕ → Bool
-  pub held : ℕ → ℕ → Announced
+  pub latest : ℕ → ℕ → Announced
   pub liveCount : ℕ
 
 -- what history shows
 abbrev pub sightOf : History → Sight
-sightOf h = record { place = place h; opened = isOpen h; openCount = openCount h; changed = isChanged h; held = held h; liveCount = liveCount h }
+sightOf h = record { place = place h; opened = isOpen h; openCount = openCount h; changed = isChanged h; latest = latest h; liveCount = liveCount h }
 
 -- THE ANNOUNCEMENT that a change at a place sees, where `of t` is what t holds:
 -- in T, T's own, else the common one; between B and C, common ones only
@@ -45,7 +45,7 @@ visibleAt (Transaction lsn) of = of 0
 visibleAt (Block x) of = orElse (of x) (of 0)
 
 abbrev pub visible : Sight → ℕ → Announced
-visible s oid = visibleAt (s .place) (λ t. s .held t oid)
+visible s oid = visibleAt (s .place) (λ t. s .latest t oid)
 
 -- THE RULES: one for each kind, its tests in the order of the paper's bullet
 
@@ -130,7 +130,7 @@ abbrev pub judgeBy : Rooms → Sight → Event → Answer
 judgeBy r s (Begin lsn x) = ruleBegin (s .place) (s .opened x)
 judgeBy r s (Commit lsn) = ruleCommit (s .place) lsn
 judgeBy r s Origin = ruleOrigin (s .place) (s .changed (holderAt (s .place)))
-judgeBy r s (Relation o i c) = ruleRelation (s .place) (isAnnounced (s .held (holderAt (s .place)) o)) (leb (r .announcements) (s .liveCount))
+judgeBy r s (Relation o i c) = ruleRelation (s .place) (isAnnounced (s .latest (holderAt (s .place)) o)) (leb (r .announcements) (s .liveCount))
 judgeBy r s (Change x o ts) = ruleChange (s .place) (visible s o) ts
 judgeBy r s (Truncate x os) = ruleTruncate (s .place) (visible s) os
 judgeBy r s Neutral = ruleNeutral (s .place)

@@ -67,7 +67,7 @@ sightBy L s = record {
   opened = isOpenIn (s .streams);
   openCount = openCountIn (s .streams);
   changed = changedAt (s .changed) (s .streams);
-  held = L .find (s .table);
+  latest = L .find (s .table);
   liveCount = L .used (s .table);
 }
 

@@ -15,7 +15,7 @@ use Rattle.message.specs.Layout.{columnLetters, columnValue, columnEnd}
 use Rattle.message.proofs.Again.{only-letter}
 use Rattle.columns.specs.declared.Position.{Position}
 use Rattle.columns.specs.declared.Column.the-variants.{Value}
-use Rattle.columns.specs.Steps.{over, gives, stepped, stood, tupleStep}
+use Rattle.columns.specs.Steps.{over, gives, stepAt, stood, tupleStep}
 use Rattle.values.specs.Steps.{binary}
 
 -- a `b` is a letter of a column
@@ -31,7 +31,7 @@ refused-value : (xs : List ℕ) (n o e : ℕ) {A : Type 0} → valueField xs (Re
 unfolding valueField numberField bytesField
 refused-value xs n o e q = no refl q
 
-pub as-tuple : (xs : List ℕ) (p : Position) (s n e : ℕ) → stepped binary xs p ≡ gives (s ∷ n ∷ []) e → tupleStep xs p ≡ record { column = Value 0x62 s n; next = record { offset = e; left = p .left - 1 } }
+pub as-tuple : (xs : List ℕ) (p : Position) (s n e : ℕ) → stepAt binary xs p ≡ gives (s ∷ n ∷ []) e → tupleStep xs p ≡ record { column = Value 0x62 s n; next = record { offset = e; left = p .left - 1 } }
 unfolding tupleStep columnValue columnEnd
 as-tuple xs p s n e q = outer (eqb (p .left) 0) refl q
   where

@@ -12,7 +12,7 @@ use Rattle.wire.specs.Fields.{valueField, member}
 use Rattle.message.specs.Encode.{digits}
 use Rattle.message.proofs.From.{From, be-from, from-first, from-next, number-from, letter-from, bytes-from}
 use Rattle.message.proofs.Judged.{length-digits}
-use Rattle.columns.specs.Steps.{gives, stepped}
+use Rattle.columns.specs.Steps.{gives, stepAt}
 use Rattle.values.specs.declared.ValueKind.{ValueKind}
 use Rattle.values.specs.declared.ValueKind.the-variants as k
 use Rattle.values.specs.declared.TypedColumn.the-variants as c
@@ -46,7 +46,7 @@ module _ (before bs behind : List ℕ) (short : length bs ≤ 0x7FFFFFFF) where
       let n = number-from (bs ++ behind) 4 0 0x7FFFFFFF 4 (length bs) size l (rw (le-leb 0 (length bs) z, le-leb (length bs) 0x7FFFFFFF short)) in
       rw n (bytes-from behind bs content)
 
-  pub stands : (k : ℕ) → stepped binary xs (atColumn before k) ≡ gives (valueStart before ∷ length bs ∷ []) (valueStart before + length bs)
+  pub stands : (k : ℕ) → stepAt binary xs (atColumn before k) ≡ gives (valueStart before ∷ length bs ∷ []) (valueStart before + length bs)
   unfolding member
   stands k =
       let l = letter-from ((digits 4 (length bs) ++ bs) ++ behind) (0x62 ∷ []) 0x62 letter refl in

@@ -12,7 +12,7 @@ use Rattle.wire.specs.declared.FieldSpan.{FieldSpan}
 use Rattle.wire.specs.Fields.{numberField, letterField, bytesField, valueField}
 use Rattle.wire.proofs.There.{no, bytes-inv, bytes-read}
 use Rattle.columns.specs.declared.Position.{Position}
-use Rattle.columns.specs.Steps.{over, gives, stepped, stood}
+use Rattle.columns.specs.Steps.{over, gives, stepAt, stood}
 use Rattle.values.specs.Steps.{binary}
 
 -- a value that was read lies in the list
@@ -35,7 +35,7 @@ pub record Found (xs : List ℕ) (p : Position) (g : List ℕ) (e : ℕ) : Type 
   pub is : g ≡ start ∷ count ∷ []
   pub lies : start + count ≤ length xs
 
-pub found : (xs : List ℕ) (p : Position) (g : List ℕ) (e : ℕ) → stepped binary xs p ≡ gives g e → Found xs p g e
+pub found : (xs : List ℕ) (p : Position) (g : List ℕ) (e : ℕ) → stepAt binary xs p ≡ gives g e → Found xs p g e
 found xs p g e q = outer (eqb (p .left) 0) q
   where
     field : FieldSpan

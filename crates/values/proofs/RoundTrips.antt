@@ -15,7 +15,7 @@ use Rattle.message.proofs.Again.{digits-be}
 use Rattle.message.proofs.From.{from-cut}
 use Rattle.writer.proofs.RoundTrips.{Byte, numbers, numbers-small}
 use Rattle.columns.specs.declared.Position.{Position}
-use Rattle.columns.specs.Steps.{Stepped, over, gives, refused, stepped}
+use Rattle.columns.specs.Steps.{StepAnswer, over, gives, refused, stepAt}
 use Rattle.values.specs.declared.ValueKind.{ValueKind}
 use Rattle.values.specs.declared.ValueKind.the-variants as k
 use Rattle.values.specs.declared.Value.{Value}
@@ -56,7 +56,7 @@ pub record GivenBy (xs : List ℕ) (p : Position) (oid : ℕ) (x : Value) : Type
   pub s : ℕ
   pub n : ℕ
   pub e : ℕ
-  pub there : stepped binary xs p ≡ gives (s ∷ n ∷ []) e
+  pub there : stepAt binary xs p ≡ gives (s ∷ n ∷ []) e
   pub again : writeValue x xs ≡ bytes (cut xs s n)
   pub kind : kindOf x ≡ kindOfType oid
   pub well : Formed x
@@ -64,13 +64,13 @@ pub record GivenBy (xs : List ℕ) (p : Position) (oid : ℕ) (x : Value) : Type
 -- a value that a step gives, from any bytes, is written as the very bytes of its column
 pub write-after-read : (xs : List Byte) (p : Position) (oid : ℕ) (x : Value) → typedStep (numbers xs) p oid .column ≡ c.Value x → GivenBy (numbers xs) p oid x
 unfolding typedStep typedValue
-write-after-read xs p oid x q = go (stepped binary (numbers xs) p) refl q
+write-after-read xs p oid x q = go (stepAt binary (numbers xs) p) refl q
   where
     y : ValueKind
     y = kindOfType oid
 
     is :
-        (s n e : ℕ) → stepped binary (numbers xs) p ≡ gives (s ∷ n ∷ []) e → s + n ≤ length (numbers xs) → (b : Bool) → allowed y n (number xs y s) ≡ b
+        (s n e : ℕ) → stepAt binary (numbers xs) p ≡ gives (s ∷ n ∷ []) e → s + n ≤ length (numbers xs) → (b : Bool) → allowed y n (number xs y s) ≡ b
         → cond b (c.Value (valueOf y s n (number xs y s))) (c.Refused 17 s) ≡ c.Value x → GivenBy (numbers xs) p oid x
     is s n e g l true t q =
         let same : valueOf y s n (number xs y s) ≡ x = cc in
@@ -87,7 +87,7 @@ write-after-read xs p oid x q = go (stepped binary (numbers xs) p) refl q
         }
     is s n e g l false t q = let z : _≡_ {A = ℕ} 0 1 = cc in absurd (omega arith)
 
-    go : (z : Stepped) → stepped binary (numbers xs) p ≡ z → typedColumn (numbers xs) oid z ≡ c.Value x → GivenBy (numbers xs) p oid x
+    go : (z : StepAnswer) → stepAt binary (numbers xs) p ≡ z → typedColumn (numbers xs) oid z ≡ c.Value x → GivenBy (numbers xs) p oid x
     go over g q = let z : _≡_ {A = ℕ} 0 1 = cc in absurd (omega arith)
     go (refused m o) g q = let z : _≡_ {A = ℕ} 0 1 = cc in absurd (omega arith)
     go (gives vs e) g q =

@@ -1,5 +1,5 @@
 use borrow.Author.Needs.{needs}
-use Rattle.message.specs.Kinds.{named}
+use Rattle.message.specs.Kinds.{kindAmong}
 use Rattle.message.proofs.Letters.{table, entry}
 use Rattle.message.proofs.kind_of.Statement.{statement}
 use Rattle.message.proofs.kind_of.Tie as tie
@@ -44,27 +44,27 @@ array-read-result-7 : tie.Need-array-read-result-7
 array-read-result-7 c = search needs
 
 returns : tie.Need-returns
-unfolding named
+unfolding kindAmong
 returns c = rw (c .match .keys1)
 
 returns-2 : tie.Need-returns-2
-unfolding named
+unfolding kindAmong
 returns-2 c = rw (c .match .keys2)
 
 returns-3 : tie.Need-returns-3
-unfolding named
+unfolding kindAmong
 returns-3 c = rw (c .match .keys3)
 
 returns-4 : tie.Need-returns-4
-unfolding named
+unfolding kindAmong
 returns-4 c = rw (c .match .keys4)
 
 returns-5 : tie.Need-returns-5
-unfolding named
+unfolding kindAmong
 returns-5 c = rw (c .match .keys5)
 
 returns-6 : tie.Need-returns-6
-unfolding named
+unfolding kindAmong
 returns-6 c = rw (c .match .keys6)
 
 returns-7 : tie.Need-returns-7

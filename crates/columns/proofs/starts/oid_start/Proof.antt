@@ -11,14 +11,14 @@ enum-known-read c = search needs
 enum-known-read-2 : tie.Need-enum-known-read-2
 enum-known-read-2 c = search needs
 
-contents-of-requires : tie.Need-contents-of-requires
-contents-of-requires c κs = tt
+sections-of-requires : tie.Need-sections-of-requires
+sections-of-requires c κs = tt
 
 returns : tie.Need-returns
 returns c = rw (← c .before .before .before .read-message .ensures, c .before .read .given .1)
 
 returns-2 : tie.Need-returns-2
-returns-2 c = rw (c .contents-of .ensures, ← c .before .before .before .before .read-message .ensures, c .before .before .read2 .given .1)
+returns-2 c = rw (c .sections-of .ensures, ← c .before .before .before .before .read-message .ensures, c .before .before .read2 .given .1)
 
 pub oid-start-spec : {M : Type 1} → statement M
 oid-start-spec =
@@ -27,6 +27,6 @@ oid-start-spec =
     read-message-requires
     enum-known-read
     enum-known-read-2
-    contents-of-requires
+    sections-of-requires
     returns
     returns-2)

@@ -11,8 +11,8 @@ enum-known-read c = search needs
 enum-known-read-2 : tie.Need-enum-known-read-2
 enum-known-read-2 c = search needs
 
-contents-of-requires : tie.Need-contents-of-requires
-contents-of-requires c κs = tt
+sections-of-requires : tie.Need-sections-of-requires
+sections-of-requires c κs = tt
 
 enum-told : tie.Need-enum-told
 enum-told c = search needs
@@ -30,10 +30,10 @@ returns : tie.Need-returns
 returns c = rw (← c .before .before .before .read-message .ensures, c .before .read .given .1)
 
 returns-2 : tie.Need-returns-2
-returns-2 c = rw (c .tuple-position .ensures, c .before .before .before .contents-of .ensures, ← c .before .before .before .before .before .before .before .read-message .ensures, c .before .before .before .before .before .read2 .given .1, c .before .enum-told .given .1)
+returns-2 c = rw (c .tuple-position .ensures, c .before .before .before .sections-of .ensures, ← c .before .before .before .before .before .before .before .read-message .ensures, c .before .before .before .before .before .read2 .given .1, c .before .enum-told .given .1)
 
 returns-3 : tie.Need-returns-3
-returns-3 c = rw (c .tuple-position2 .ensures, c .before .before .before .contents-of .ensures, ← c .before .before .before .before .before .before .before .read-message .ensures, c .before .before .before .before .before .read2 .given .1, c .before .enum-told2 .given .1)
+returns-3 c = rw (c .tuple-position2 .ensures, c .before .before .before .sections-of .ensures, ← c .before .before .before .before .before .before .before .read-message .ensures, c .before .before .before .before .before .read2 .given .1, c .before .enum-told2 .given .1)
 
 pub tuple-start-spec : {M : Type 1} → statement M
 tuple-start-spec =
@@ -42,7 +42,7 @@ tuple-start-spec =
     read-message-requires
     enum-known-read
     enum-known-read-2
-    contents-of-requires
+    sections-of-requires
     enum-told
     tuple-position-requires
     enum-told-2

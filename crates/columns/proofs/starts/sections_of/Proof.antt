@@ -1,8 +1,8 @@
 use mathlib.Core.Path.{sym, _∙_}
 use Rattle.columns.proofs.Without.{nothing-in}
 use borrow.Author.Needs.{needs}
-use Rattle.columns.proofs.starts.contents_of.Statement.{statement}
-use Rattle.columns.proofs.starts.contents_of.Tie as tie
+use Rattle.columns.proofs.starts.sections_of.Statement.{statement}
+use Rattle.columns.proofs.starts.sections_of.Tie as tie
 
 enum-known-m : tie.Need-enum-known-m
 enum-known-m c = search needs
@@ -64,8 +64,8 @@ returns-5 c = rw (c .lacking2 .ensures, c .before .before .before .m5 .given .1)
 returns-6 : tie.Need-returns-6
 returns-6 c = c .tuples4 .ensures ∙ sym (nothing-in (c .before .before .args .m) (c .before .match .keys6))
 
-pub contents-of-spec : {M : Type 1} → statement M
-contents-of-spec =
+pub sections-of-spec : {M : Type 1} → statement M
+sections-of-spec =
     tie.close
     (tie.spec
     enum-known-m

@@ -16,11 +16,11 @@ use Rattle.message.specs.Messages.{messageOf, oldTuple}
 use Rattle.message.proofs.Accepted.{reached}
 use Rattle.message.proofs.Local.{letter-local, groups-local, tuple-local}
 use Rattle.columns.specs.declared.Position.{Position}
-use Rattle.columns.specs.declared.Contents.{Contents}
+use Rattle.columns.specs.declared.Sections.{Sections}
 use Rattle.columns.specs.declared.Found.{Found}
 use Rattle.columns.specs.declared.Found.the-variants as found
 use Rattle.columns.specs.declared.Started.the-variants as started
-use Rattle.columns.specs.Starts.{absent, at, oldOffset, withTuples, contentsOf}
+use Rattle.columns.specs.Starts.{absent, at, oldOffset, withTuples, sectionsOf}
 
 module _ (xs : List ℕ) where
   -- a tuple, or groups, that lie there whole
@@ -31,7 +31,7 @@ module _ (xs : List ℕ) where
   GroupsAt fs p = (e : ℕ) × (groupsEnd fs xs (p .left) (At (p .offset)) ≡ At e)
 
   -- what contents say lies there whole
-  pub record Sound (k : Contents) : Type 0 where
+  pub record Sound (k : Sections) : Type 0 where
     pub old-whole : (start : ℕ) → k .old ≡ found.At start → TupleAt start
     pub new-whole : (start : ℕ) → k .new ≡ found.At start → TupleAt start
     pub columns-whole : (p : Position) → k .columns ≡ started.At p → GroupsAt columnFields p
@@ -110,7 +110,7 @@ module _ (xs : List ℕ) where
       let m = reached (λ (d : Cursor). letterField (0x4E ∷ []) xs d .next) (letter-local (0x4E ∷ []) .stays xs) (optional keyOrOld xs c .next) (r .1) in
       tuples-sound _ _ (old-here c (m .0) (m .1)) (tuple-here n e q)
 
-  pub kind-sound : (b : Bool) (k : Kind) (e : ℕ) → readFields b (layout k) xs (At 1) .next ≡ At e → Sound (contentsOf (messageOf k (readFields b (layout k) xs (At 1) .parts)))
+  pub kind-sound : (b : Bool) (k : Kind) (e : ℕ) → readFields b (layout k) xs (At 1) .next ≡ At e → Sound (sectionsOf (messageOf k (readFields b (layout k) xs (At 1) .parts)))
   kind-sound b begin e q = nothing-sound
   kind-sound b commit e q = nothing-sound
   kind-sound b origin e q = nothing-sound
