@@ -1,22 +1,24 @@
 -- The cases of a part. Assumes nothing.
-use Prim.Native.Nat.{ℕ, _+_, _<_, _≤_}
+use Prim.Native.Nat.{ℕ, _+_, _≤_}
 use mathlib.Core.List.{List}
-use mathlib.Core.Path.{_≡_}
-use native.Mathlib.Omega.{arith}
-use borrow.Author.Tests.{le-leb, lt-leb}
+use mathlib.Core.Bool.{Bool, true, false, cond}
+use mathlib.Core.Path.{_≡_, refl}
+use borrow.Author.Tests.{le-leb, leb-true}
+use lib.Dec.{leb}
 use lib.ListN.{length}
 use Rattle.wire.specs.declared.Span.{Span}
 use Rattle.columns.specs.Parts.{emptySpan, within}
 
-module _ (xs : List ℕ) where
-  module _ (s : Span) where
-    pub lacking : length xs < s .start + s .length → within xs s ≡ emptySpan
-    unfolding within
-    lacking h = rw (lt-leb (s .start + s .length) (length xs) h)
+module _ (xs : List ℕ) (s : Span) where
+  pub there : s .start + s .length ≤ length xs → within xs s ≡ s
+  unfolding within
+  there h = rw (le-leb (s .start + s .length) (length xs) h)
 
-    pub there : s .start + s .length ≤ length xs → within xs s ≡ s
-    unfolding within
-    there h = rw (le-leb (s .start + s .length) (length xs) h)
-
-  pub front : within xs emptySpan ≡ emptySpan
-  front = there emptySpan (omega arith)
+  -- a span that lies in the bytes only where it is the empty one itself
+  pub lacking : (s .start + s .length ≤ length xs → (s .start ≡ 0) × (s .length ≡ 0)) → within xs s ≡ emptySpan
+  unfolding within
+  lacking h = go (leb (s .start + s .length) (length xs)) refl
+    where
+      go : (t : Bool) → leb (s .start + s .length) (length xs) ≡ t → cond t s emptySpan ≡ emptySpan
+      go true t = let e = h (leb-true _ _ t) in λ i. record { start = e .0 i; length = e .1 i }
+      go false t = refl

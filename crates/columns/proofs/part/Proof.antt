@@ -18,7 +18,7 @@ part-result-end c = search needs
 
 returns : tie.Need-returns
 returns c =
-    let w = lacking (now (c .before .before .args .message)) (c .before .before .args .span) (omega arith) in
+    let w = lacking (now (c .before .before .args .message)) (c .before .before .args .span) (λ l. (omega arith, omega arith)) in
     record { bytes = rw w; block = refl; offset = rw w (omega arith) }
 
 sub-if2 : tie.Need-sub-if2
@@ -35,7 +35,7 @@ part-result-end-2 c = search needs
 
 returns-2 : tie.Need-returns-2
 returns-2 c =
-    let w = lacking (now (c .before .before .before .args .message)) (c .before .before .before .args .span) (omega arith) in
+    let w = lacking (now (c .before .before .before .args .message)) (c .before .before .before .args .span) (λ l. (omega arith, omega arith)) in
     record { bytes = rw w; block = refl; offset = rw w (omega arith) }
 
 add-end : tie.Need-add-end

@@ -2,7 +2,8 @@ use mathlib.Core.Path.{refl}
 use native.Mathlib.Omega.{arith}
 use borrow.Author.Needs.{needs}
 use denote.Ref.{now}
-use Rattle.columns.proofs.Parts.{front}
+use Rattle.columns.specs.Parts.{emptySpan}
+use Rattle.columns.proofs.Parts.{lacking}
 use Rattle.columns.proofs.readers.column_part.Statement.{statement}
 use Rattle.columns.proofs.readers.column_part.Tie as tie
 
@@ -41,12 +42,12 @@ returns c = rw (c .before .before .column .given .1) (c .part .ensures)
 
 returns-2 : tie.Need-returns-2
 returns-2 c =
-    let w = front (now (c .before .before .before .before .args .message)) in
+    let w = lacking (now (c .before .before .before .before .args .message)) emptySpan (λ l. (refl, refl)) in
     rw (c .before .enum-told .given .1) (record { bytes = rw w; block = refl; offset = rw w (omega arith) })
 
 returns-3 : tie.Need-returns-3
 returns-3 c =
-    let w = front (now (c .before .before .before .before .args .message)) in
+    let w = lacking (now (c .before .before .before .before .args .message)) emptySpan (λ l. (refl, refl)) in
     rw (c .before .enum-told2 .given .1) (record { bytes = rw w; block = refl; offset = rw w (omega arith) })
 
 pub column-part-spec : {M : Type 1} → statement M
