@@ -7,16 +7,16 @@ use borrow.Author.Tests.{le-leb, leb-true}
 use lib.Dec.{leb}
 use lib.ListN.{length}
 use Rattle.wire.specs.declared.Span.{Span}
-use Rattle.columns.specs.Parts.{emptySpan, within}
+use Rattle.columns.specs.Parts.{emptySpan, spanWithin}
 
 module _ (xs : List ℕ) (s : Span) where
-  pub there : s .start + s .length ≤ length xs → within xs s ≡ s
-  unfolding within
+  pub there : s .start + s .length ≤ length xs → spanWithin xs s ≡ s
+  unfolding spanWithin
   there h = rw (le-leb (s .start + s .length) (length xs) h)
 
   -- a span that lies in the bytes only where it is the empty one itself
-  pub lacking : (s .start + s .length ≤ length xs → (s .start ≡ 0) × (s .length ≡ 0)) → within xs s ≡ emptySpan
-  unfolding within
+  pub lacking : (s .start + s .length ≤ length xs → (s .start ≡ 0) × (s .length ≡ 0)) → spanWithin xs s ≡ emptySpan
+  unfolding spanWithin
   lacking h = go (leb (s .start + s .length) (length xs)) refl
     where
       go : (t : Bool) → leb (s .start + s .length) (length xs) ≡ t → cond t s emptySpan ≡ emptySpan

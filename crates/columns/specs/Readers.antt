@@ -5,24 +5,30 @@ use denote.Ref.{now}
 use Rattle.wire.specs.declared.Span.{Span}
 use Rattle.columns.specs.declared.Column.{Column}
 use Rattle.columns.specs.declared.Column.the-variants.{Value, Over, Refused}
+use Rattle.columns.specs.declared.TupleStep.{TupleStep}
 use Rattle.columns.specs.declared.Moved.{Moved}
 use Rattle.columns.specs.declared.ColumnReader.{ColumnReader}
 use Rattle.columns.specs.Parts.{emptySpan}
 use Rattle.columns.specs.Steps.{tupleStep}
 
-abbrev pub movedAt : List ℕ → ℕ → ℕ → Moved
-movedAt xs offset left =
-    let s = tupleStep xs (record { offset = offset; left = left }) in
-    record { column = s .column; offset = s .next .offset; left = s .next .left }
+-- the step at a position
+abbrev pub stepFrom : List ℕ → (offset left : ℕ) → TupleStep
+stepFrom xs offset left = tupleStep xs (record { offset = offset; left = left })
+
+-- the step at a reader's position
+abbrev pub readerStep : ColumnReader → TupleStep
+readerStep r = stepFrom (now (r .message)) (r .offset) (r .left)
 
 -- the reader after a step: the same message, and the position that the step gives
 abbrev pub movedTo : ColumnReader → ColumnReader
-movedTo r =
-    let m = movedAt (now (r .message)) (r .offset) (r .left) in
-    record { message = r .message; offset = m .offset; left = m .left }
+movedTo r = let s = readerStep r in record { message = r .message; offset = s .next .offset; left = s .next .left }
 
 -- the span of a column's value; the empty one where it has none
 abbrev pub spanOf : Column → Span
 spanOf (Value letter start length) = record { start = start; length = length }
 spanOf Over = emptySpan
 spanOf (Refused number offset) = emptySpan
+
+-- for a private contract: the step at a position, taken apart
+abbrev pub movedAt : List ℕ → (offset left : ℕ) → Moved
+movedAt xs offset left = let s = stepFrom xs offset left in record { column = s .column; offset = s .next .offset; left = s .next .left }

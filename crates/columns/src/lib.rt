@@ -11,7 +11,6 @@ mod steps;
 
 pub use readers::column_part;
 pub use readers::first;
-pub use readers::moved_at;
 pub use readers::reader_at;
 pub use readers::step;
 pub use starts::oid_start;
@@ -84,11 +83,11 @@ pub struct TupleStep {
     pub next: Position,
 }
 
-// The same with its position taken apart.
-pub struct Moved {
-    pub column: Column,
-    pub offset: usize,
-    pub left: usize,
+// The same with its position taken apart, for the reader below.
+struct Moved {
+    column: Column,
+    offset: usize,
+    left: usize,
 }
 
 // A column of a Relation. The key flag is 1 where the column is part of the key.
@@ -147,7 +146,7 @@ pub struct ColumnReader<'a> {
 }
 
 // A column, and the very part of the message that is its value.
-pub struct Given<'a> {
+pub struct ColumnValue<'a> {
     pub column: Column,
     pub value: &'a [u8],
 }

@@ -1,10 +1,10 @@
 // A reader that holds the message and a position: its functions take it apart and call those on plain positions.
 ghost use mathlib.Core.Path.{_≡_};
-ghost use Rattle.columns.specs.Readers.{movedAt, movedTo, spanOf};
+ghost use Rattle.columns.specs.Readers.{movedAt, stepFrom, readerStep, movedTo, spanOf};
 ghost use Rattle.columns.specs.Parts.{VeryPart};
 use crate::Column;
 use crate::ColumnReader;
-use crate::Given;
+use crate::ColumnValue;
 use crate::Moved;
 use crate::Position;
 use crate::TupleStep;
@@ -54,8 +54,8 @@ pub fn reader_at<'a>(message: &'a [u8], offset: usize, left: usize) -> ColumnRea
 }
 
 // One step of the reader: the column with its part of the message. After a refusal, and when the tuple is over, it stands where it was.
-pub fn step<'s, 'a>(r: &'s mut ColumnReader<'a>) -> Given<'a>
-    ensures { λ g. ⌜ (g .column ≡ movedAt (now (now (r .entry) .message)) (now (r .entry) .offset) (now (r .entry) .left) .column)
+pub fn step<'s, 'a>(r: &'s mut ColumnReader<'a>) -> ColumnValue<'a>
+    ensures { λ g. ⌜ (g .column ≡ readerStep (now (r .entry)) .column)
         × VeryPart (g .value) (now (r .entry) .message) (spanOf (g .column))
         × (now (r .exit) ≡ movedTo (now (r .entry))) ⌝ }
 {
@@ -64,12 +64,12 @@ pub fn step<'s, 'a>(r: &'s mut ColumnReader<'a>) -> Given<'a>
     r.left = d.left;
     let column = d.column;
     let value = column_part(r.message, column);
-    Given { column, value }
+    ColumnValue { column, value }
 }
 
 // The first step of a reader at a position, for callers with plain parameters.
 pub fn first(message: &[u8], offset: usize, left: usize) -> Column
-    ensures { λ r. ⌜ r ≡ movedAt (now (message .entry)) offset left .column ⌝ }
+    ensures { λ r. ⌜ r ≡ stepFrom (now (message .entry)) offset left .column ⌝ }
 {
     let mut r = reader_at(message, offset, left);
     let given = step(&mut r);

@@ -26,7 +26,7 @@ use Rattle.columns.specs.declared.Column.{Column}
 use Rattle.columns.specs.declared.Column.the-variants.{Value, Over, Refused}
 use Rattle.columns.specs.declared.RelationColumn.{RelationColumn}
 use Rattle.columns.specs.declared.RelationColumn.the-variants as column
-use Rattle.columns.specs.Parts.{partOf}
+use Rattle.columns.specs.Parts.{spanWithin, partOf}
 use Rattle.columns.specs.Starts.{tuplePosition, tupleStart, relationStart}
 use Rattle.columns.specs.Steps.{tupleStep, relationStep}
 
@@ -165,5 +165,5 @@ table =
     ∷ []
 
 pub marked : map (λ (e : Example). ask (e .question)) table ≡ map (λ (e : Example). e .answer) table
-unfolding ask read tagged answersBy from tupleSteps relationSteps valueBytes nameBytes textBytes partOf example is table tuplePosition tupleStep relationStep readMessage readKind kindAmong versionAllows versionHas valueField columnValue columnEnd groupsEnd tupleEnd optional xidField be wordAt numberField letterField member textField untilZero bytesField
+unfolding ask read tagged answersBy from tupleSteps relationSteps valueBytes nameBytes textBytes spanWithin example is table tuplePosition tupleStep relationStep readMessage readKind kindAmong versionAllows versionHas valueField columnValue columnEnd groupsEnd tupleEnd optional xidField be wordAt numberField letterField member textField untilZero bytesField
 marked = refl

@@ -25,7 +25,7 @@ pub struct Both {
 }
 
 // Both after a message, its answer from the session, and what it got from the one with a keeper.
-pub struct Given {
+pub struct BothAfter {
     pub both: Both,
     pub answer: Answer,
     pub reply: Reply,
@@ -106,7 +106,7 @@ pub fn fresh(version: u32) -> Both {
 }
 
 // Gives both a message.
-pub fn step(both: Both, bytes: &[u8], index: u64, buffer: &mut [u8], out: &mut [u8]) -> Given {
+pub fn step(both: Both, bytes: &[u8], index: u64, buffer: &mut [u8], out: &mut [u8]) -> BothAfter {
     let Both {
         alone,
         keeping,
@@ -128,7 +128,7 @@ pub fn step(both: Both, bytes: &[u8], index: u64, buffer: &mut [u8], out: &mut [
         held: holds,
         accepted: std::num::wrapping_add_u64(accepted, session::accepted(answer) as u64),
     };
-    Given {
+    BothAfter {
         both: after,
         answer,
         reply,
@@ -137,7 +137,7 @@ pub fn step(both: Both, bytes: &[u8], index: u64, buffer: &mut [u8], out: &mut [
 
 // Gives both a message, and prints what it got.
 fn give(both: Both, bytes: &[u8], index: u64, buffer: &mut [u8], out: &mut [u8]) -> Both {
-    let Given {
+    let BothAfter {
         both: after,
         answer,
         reply,

@@ -6,8 +6,8 @@ use crate::blocks::BLOCKS;
 use crate::blocks::Listed;
 use crate::giving;
 use crate::giving::Both;
+use crate::giving::BothAfter;
 use crate::giving::Counts;
-use crate::giving::Given;
 use crate::notes;
 use crate::print;
 use crate::print_number;
@@ -49,7 +49,7 @@ fn give(
     noted: &mut [[u64; 7]],
     from: usize,
 ) -> Both {
-    let Given {
+    let BothAfter {
         both: after,
         answer,
         reply,

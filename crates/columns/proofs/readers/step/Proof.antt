@@ -55,9 +55,9 @@ use Rattle.columns.specs.Readers.{movedAt, spanOf}
 use Rattle.columns.specs.Parts.{VeryPart}
 use Rattle.columns.specs.declared.Column.{Column}
 use Rattle.columns.specs.declared.Moved.{Moved}
-use Rattle.columns.specs.declared.Given.{Given as Pair}
-use Rattle.columns.proofs.Given as G
-use Rattle.columns.proofs.Given.Laws as G′
+use Rattle.columns.specs.declared.ColumnValue.{ColumnValue as Pair}
+use Rattle.columns.proofs.ColumnValue as G
+use Rattle.columns.proofs.ColumnValue.Laws as G′
 use Rattle.columns.proofs.Column as E
 use Rattle.columns.proofs.Column.Laws as E′
 use Rattle.columns.proofs.Moved as S
