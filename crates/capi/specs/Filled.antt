@@ -1,4 +1,4 @@
--- What a function of C's returns, the numbers that it fills in, and a number that says yes or no.
+-- To be believed (for C). What a function of C's returns, the numbers that it fills in, and a number that says yes or no.
 use Prim.Native.Nat.{ℕ, zero, suc}
 use mathlib.Core.List.{List, [], _∷_}
 use mathlib.Core.Bool.{Bool, not}

@@ -1,4 +1,4 @@
--- The flat form of a message: a row of 16 numbers. What reading answers as a row, and the message whose flat form a row is.
+-- To be believed (for C). The flat form of a message: a row of 16 numbers. What reading answers as a row, and the message whose flat form a row is.
 use Prim.Native.Nat.{ℕ, zero, suc, _+_, _^_}
 use mathlib.Core.List.{List, [], _∷_, _++_}
 use mathlib.Core.Bool.{Bool, true, cond, _&&_}

@@ -1,4 +1,4 @@
--- A session's answer in numbers.
+-- To be believed (for C). A session's answer in numbers.
 use mathlib.Core.List.{[], _∷_}
 use Rattle.session.specs.declared.Answer.{Answer}
 use Rattle.session.specs.declared.Answer.the-variants.{Accepted, Change, Refused}

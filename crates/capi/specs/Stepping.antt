@@ -1,4 +1,4 @@
--- Stepping in numbers: what `kq_column_start` and `kq_column_step` return and fill in.
+-- To be believed (for C). Stepping in numbers: what `kq_column_start` and `kq_column_step` return and fill in.
 use Prim.Native.Nat.{ℕ}
 use mathlib.Core.List.{List, [], _∷_}
 use mathlib.Core.Bool.{cond}

@@ -1,4 +1,4 @@
--- A reply in numbers, as C sees it.
+-- To be believed (for C). A reply in numbers, as C sees it.
 use Prim.Native.Nat.{ℕ}
 use mathlib.Core.List.{List, [], _∷_}
 use Rattle.session.specs.declared.Answer.{Answer}

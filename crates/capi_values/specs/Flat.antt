@@ -1,4 +1,4 @@
--- The flat form of a binary value: three numbers. What writing one gives.
+-- To be believed (for C). The flat form of a binary value: three numbers. What writing one gives.
 use Prim.Native.Nat.{ℕ}
 use mathlib.Core.List.{List, [], _∷_}
 use mathlib.Core.Bool.{cond, _&&_}

@@ -1,4 +1,4 @@
--- A step past a binary column in numbers: what `kq_value_step` returns and fills in.
+-- To be believed (for C). A step past a binary column in numbers: what `kq_value_step` returns and fills in.
 use Prim.Native.Nat.{ℕ}
 use mathlib.Core.List.{List, [], _∷_}
 use lib.ListN.{getD}

@@ -1,4 +1,4 @@
--- THE PLACES AT WHICH A SEARCH LOOKS, in order.
+-- For contracts only. THE PLACES AT WHICH A SEARCH LOOKS, in order.
 use Prim.Native.Nat.{ℕ, zero, suc, _+_, _-_, _/_}
 use mathlib.Core.List.{List, [], _∷_}
 use mathlib.Core.Bool.{cond}

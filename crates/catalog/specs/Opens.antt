@@ -1,4 +1,4 @@
--- THE OPEN STREAMED TRANSACTIONS as everything above knows them: by these names, which are shut, and by the laws of `proofs/Opens.antt`.
+-- For contracts only. THE OPEN STREAMED TRANSACTIONS as everything above knows them: by these names, which are shut, and by the laws of `proofs/Opens.antt`.
 use Prim.Native.Nat.{ℕ, _-_}
 use mathlib.Core.List.{List}
 use mathlib.Core.Bool.{Bool, false, not, _&&_}

@@ -1,4 +1,4 @@
--- The table of announcements: four lists of numbers, seen as one list of rows. The rows in use stand at the front, sorted by their keys.
+-- For contracts only. The table of announcements: four lists of numbers, seen as one list of rows. The rows in use stand at the front, sorted by their keys.
 use Prim.Native.Nat.{ℕ, zero, suc, _+_, _*_, _-_, _/_, _%_, _<_}
 use mathlib.Core.Path.{_≡_}
 use mathlib.Core.List.{List, [], _∷_, _++_}

@@ -1,4 +1,4 @@
--- THE TABLE OF ANNOUNCEMENTS as everything above knows it: by these names, which are shut, and by the laws of `proofs/Tables.antt`.
+-- For contracts only. THE TABLE OF ANNOUNCEMENTS as everything above knows it: by these names, which are shut, and by the laws of `proofs/Tables.antt`.
 use Prim.Native.Nat.{ℕ}
 use mathlib.Core.List.{List}
 use mathlib.Core.Bool.{Bool, true, false, cond}

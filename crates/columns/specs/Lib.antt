@@ -3,3 +3,4 @@ pub mod Starts
 pub mod Steps
 pub mod Visits
 pub mod Readers
+pub mod Code

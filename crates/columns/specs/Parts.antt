@@ -1,4 +1,4 @@
--- A part of a message: its bytes, and its place in memory.
+-- To be believed (stepping). A part of a message: its bytes, and its place in memory.
 use Prim.Native.Nat.{ℕ, _+_}
 use mathlib.Core.List.{List}
 use mathlib.Core.Bool.{cond}

@@ -1,4 +1,4 @@
--- What a column reader does: a step at its position, and the span of the value in its message.
+-- To be believed (stepping). What a column reader does: a step at its position, and the span of the value in its message.
 use Prim.Native.Nat.{ℕ}
 use mathlib.Core.List.{List}
 use denote.Ref.{now}
@@ -6,7 +6,6 @@ use Rattle.wire.specs.declared.Span.{Span}
 use Rattle.columns.specs.declared.Column.{Column}
 use Rattle.columns.specs.declared.Column.the-variants.{Value, Over, Refused}
 use Rattle.columns.specs.declared.TupleStep.{TupleStep}
-use Rattle.columns.specs.declared.Moved.{Moved}
 use Rattle.columns.specs.declared.ColumnReader.{ColumnReader}
 use Rattle.columns.specs.Parts.{emptySpan}
 use Rattle.columns.specs.Steps.{tupleStep}
@@ -28,7 +27,3 @@ abbrev pub spanOf : Column → Span
 spanOf (Value letter start length) = record { start = start; length = length }
 spanOf Over = emptySpan
 spanOf (Refused number offset) = emptySpan
-
--- for a private contract: the step at a position, taken apart
-abbrev pub movedAt : List ℕ → (offset left : ℕ) → Moved
-movedAt xs offset left = let s = stepFrom xs offset left in record { column = s .column; offset = s .next .offset; left = s .next .left }

@@ -1,4 +1,4 @@
--- Where stepping starts (document 01, "Looking at a tuple"): the whole message is read first.
+-- To be believed (stepping). Where stepping starts (document 01, "Looking at a tuple"): the whole message is read first.
 use Prim.Native.Nat.{ℕ}
 use mathlib.Core.List.{List}
 use Rattle.wire.specs.declared.Cursor.the-variants.{At}

@@ -1,4 +1,4 @@
--- One step, from any position (document 01, "Looking at a tuple"): said once over the fields of what is stepped through.
+-- To be believed (stepping). One step, from any position (document 01, "Looking at a tuple"): said once over the fields of what is stepped through.
 use Prim.Native.Nat.{ℕ, _-_}
 use mathlib.Core.List.{List, [], _∷_}
 use mathlib.Core.Bool.{cond}
@@ -8,16 +8,14 @@ use mir.Syntax.{w32}
 use mir.Val.{toZ}
 use Rattle.wire.specs.declared.Cursor.{Cursor}
 use Rattle.wire.specs.declared.Cursor.the-variants.{At, Refused}
-use Rattle.message.specs.Layout.{Field, column, id, readField, readGroup}
+use Rattle.message.specs.Layout.{Field, column, id, readGroup}
 use Rattle.message.specs.Kinds.{columnFields}
 use Rattle.columns.specs.declared.Position.{Position}
-use Rattle.columns.specs.declared.ColumnField.{ColumnField}
 use Rattle.columns.specs.declared.Column.{Column}
 use Rattle.columns.specs.declared.Column.the-variants as tuple
 use Rattle.columns.specs.declared.TupleStep.{TupleStep}
 use Rattle.columns.specs.declared.RelationColumn.{RelationColumn}
 use Rattle.columns.specs.declared.RelationColumn.the-variants as relation
-use Rattle.columns.specs.declared.RelationField.{RelationField}
 use Rattle.columns.specs.declared.RelationStep.{RelationStep}
 use Rattle.columns.specs.declared.TruncatedRelation.{TruncatedRelation}
 use Rattle.columns.specs.declared.TruncatedRelation.the-variants as oid
@@ -74,25 +72,3 @@ truncatedRelation (refused n o) = oid.Refused n o
 
 unfoldable pub oidStep : List ℕ → Position → OidStep
 oidStep xs p = let s = stepAt (id ∷ []) xs p in record { relation = truncatedRelation s; next = after s p }
-
--- WHAT THE CODE READS, for private contracts: the fields of one group, and where reading stands after them
-
-unfoldable pub columnField : List ℕ → Cursor → ColumnField
-columnField xs c =
-    let f = readField column xs c in
-    record {
-      letter = getD (f .values) 0 0;
-      value = record { start = getD (f .values) 1 0; length = getD (f .values) 2 0 };
-      next = f .next;
-    }
-
-unfoldable pub relationField : List ℕ → Cursor → RelationField
-relationField xs c =
-    let g = readGroup columnFields xs c in
-    record {
-      key = getD (g .values) 0 0;
-      name = record { start = getD (g .values) 1 0; length = getD (g .values) 2 0 };
-      «type_oid» = getD (g .values) 3 0;
-      bits = getD (g .values) 4 0;
-      next = g .next;
-    }

@@ -1,4 +1,4 @@
--- Stepping through all of a tuple, a Relation's columns or a Truncate's OIDs: what is stepped through, and what many steps give.
+-- To be believed (stepping). Stepping through all of a tuple, a Relation's columns or a Truncate's OIDs: what is stepped through, and what many steps give.
 use Prim.Native.Nat.{ℕ, zero, suc}
 use mathlib.Core.List.{List, [], _∷_}
 use Rattle.wire.specs.declared.Cursor.{Cursor}

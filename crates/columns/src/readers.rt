@@ -1,6 +1,7 @@
 // A reader that holds the message and a position: its functions take it apart and call those on plain positions.
 ghost use mathlib.Core.Path.{_≡_};
-ghost use Rattle.columns.specs.Readers.{movedAt, stepFrom, readerStep, movedTo, spanOf};
+ghost use Rattle.columns.specs.Readers.{stepFrom, readerStep, movedTo, spanOf};
+ghost use Rattle.columns.specs.Code.{movedAt};
 ghost use Rattle.columns.specs.Parts.{VeryPart};
 use crate::Column;
 use crate::ColumnReader;

@@ -1,6 +1,7 @@
 // One step from any position: what stands there, and the position after it.
 ghost use mathlib.Core.Path.{_≡_};
-ghost use Rattle.columns.specs.Steps.{columnField, relationField, tupleStep, relationStep, oidStep};
+ghost use Rattle.columns.specs.Steps.{tupleStep, relationStep, oidStep};
+ghost use Rattle.columns.specs.Code.{columnField, relationField};
 use crate::Column;
 use crate::ColumnField;
 use crate::OidStep;

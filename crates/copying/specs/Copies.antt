@@ -1,4 +1,4 @@
--- What a copy leaves in a lent buffer. Where there is no room for the whole, nothing is copied.
+-- For contracts only. What a copy leaves in a lent buffer. Where there is no room for the whole, nothing is copied.
 use Prim.Native.Nat.{ℕ, _+_}
 use mathlib.Core.List.{List}
 use mathlib.Core.Bool.{cond, _&&_}

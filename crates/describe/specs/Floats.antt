@@ -1,4 +1,4 @@
--- What the contracts on a float's parts cite.
+-- For contracts only. What the contracts on a float's parts cite.
 use Prim.Native.Nat.{ℕ, _≤_, _<_}
 
 -- a fraction, what the bit before it counts, an exponent, and the one at which the last bit counts 1 are within those of 64 bits

@@ -1,4 +1,4 @@
--- What the contracts on the buffer's unread bytes cite.
+-- For contracts only. What the contracts on the buffer's unread bytes cite.
 use Prim.Native.Nat.{ℕ, _≤_}
 
 -- the bytes from a start to an end lie in a buffer of so many

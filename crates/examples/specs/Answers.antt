@@ -1,4 +1,4 @@
--- what the answers of two readers are compared by
+-- For contracts only. What the answers of two readers are compared by
 use mathlib.Core.Path.{_≡_}
 use Prim.Native.Nat.{ℕ, _<_}
 use lib.ListN.{getD}

@@ -1,4 +1,4 @@
--- places in a text
+-- For contracts only. Places in a text
 use Prim.Native.Nat.{ℕ, _≤_, _<_}
 use Rattle.examples.specs.declared.text.Hex.{Hex}
 

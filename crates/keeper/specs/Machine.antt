@@ -1,4 +1,4 @@
--- What a keeper makes of its buffer, on any bytes, and what one step of a session with a keeper makes of both.
+-- For contracts only. What a keeper makes of its buffer, on any bytes, and what one step of a session with a keeper makes of both.
 -- Nobody has to believe this file: the list theorem shows that it does what the rules over history say.
 use Prim.Native.Nat.{ℕ, _+_}
 use mathlib.Core.List.{List, []}

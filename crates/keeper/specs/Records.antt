@@ -1,4 +1,4 @@
--- Bytes of a buffer in pieces: whole records from the front, and what is none, which is one piece to the end and nobody's.
+-- For contracts only. Bytes of a buffer in pieces: whole records from the front, and what is none, which is one piece to the end and nobody's.
 use Prim.Native.Nat.{ℕ, zero, suc, _+_}
 use mathlib.Core.List.{List, [], _++_}
 use mathlib.Core.Bool.{Bool, true, false, cond, not, _&&_, _||_}

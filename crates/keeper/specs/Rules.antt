@@ -1,4 +1,4 @@
--- THE KEEPER'S RULES (request 101), over history and the message alone: no buffer is read here.
+-- To be believed (demand 3 with a keeper). THE KEEPER'S RULES (request 101), over history and the message alone: no buffer is read here.
 use Prim.Native.Nat.{ℕ, _+_}
 use mathlib.Core.List.{List, [], _∷_, _++_}
 use mathlib.Core.Bool.{Bool, cond, not, _&&_}

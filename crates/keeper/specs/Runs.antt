@@ -1,4 +1,4 @@
--- A session and a keeper given a list of messages one after another.
+-- To be believed (demand 3 with a keeper). A session and a keeper given a list of messages one after another.
 use mathlib.Core.List.{List, [], _∷_}
 use Rattle.session.specs.declared.Session.{Session}
 use Rattle.session.specs.History.{given}

@@ -1,4 +1,4 @@
--- TURNS WITH A KEEPER (request 105): two neighbouring blocks of different streamed transactions may change places.
+-- To be believed (the order of turns). TURNS WITH A KEEPER (request 105): two neighbouring blocks of different streamed transactions may change places.
 use Prim.Native.Nat.{ℕ}
 use mathlib.Core.Path.{_≡_}
 use mathlib.Core.List.{List, _++_, map}

@@ -9,7 +9,7 @@ use lib.ListN.{length, getD, take, drop, length-drop, length-append}
 use lib.Seq.{take-suc, drop-cons, take-add, drop-drop, getD-drop, getD-take, getD-append-seam}
 use lib.Dec.{eqb}
 use Rattle.wire.specs.declared.Cursor.{Cursor}
-use Rattle.wire.specs.declared.Cursor.the-variants.{At, Refused}
+use Rattle.wire.specs.declared.Cursor.the-variants.{At}
 use Rattle.wire.specs.declared.Field64.{Field64}
 use Rattle.wire.specs.declared.Field8.{Field8}
 use Rattle.wire.specs.declared.FieldSpan.{FieldSpan}
@@ -22,7 +22,7 @@ use Rattle.message.specs.Messages.{largest}
 use Rattle.message.specs.Encode.{digits, cut}
 use Rattle.message.specs.Write.{arity, arities}
 use Rattle.message.specs.Pieces.{Piece, placed, steps, bytesOf, tested, numberPiece, letterPiece, bytePiece, lengthPiece, textPiece, contentPiece, sectionPiece, valuePieces, xidPiece, tuplePiece, oldPieces, fieldPieces, groupPieces, partPieces, layoutPieces}
-use Rattle.message.proofs.Local.{Local, through, groupEnd, value-local, field-local, group-local, groups-local, tuple-local, fields-stay}
+use Rattle.message.proofs.Local.{Local, through, groupEnd, value-local, group-local, groups-local, tuple-local, fields-stay}
 use Rattle.message.proofs.Judged.{steps-append, bytes-append}
 
 -- FIELDS AND THEIR NUMBERS

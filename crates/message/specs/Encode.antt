@@ -1,4 +1,4 @@
--- A message as the parts of its layout, and the bytes of a number and of a part of a source.
+-- To be believed (demand 2). A message as the parts of its layout, and the bytes of a number and of a part of a source.
 use Prim.Native.Nat.{ℕ, zero, suc, _-_, _/_, _%_}
 use mathlib.Core.List.{List, [], _∷_, _++_}
 use lib.ListN.{take, drop}

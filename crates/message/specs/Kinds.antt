@@ -1,4 +1,4 @@
--- The kinds of messages: their letters, the first version that has each, and the fields after the letter
+-- To be believed (demand 1). The kinds of messages: their letters, the first version that has each, and the fields after the letter
 -- (document 01, "Layouts": a line for each row of its table, in its order).
 use Prim.Native.Nat.{ℕ, suc}
 use mathlib.Core.List.{List, [], _∷_}

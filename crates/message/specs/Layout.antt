@@ -1,4 +1,4 @@
--- What a layout is made of, and the one way to read it: fields from left to right, each first for presence and then for content.
+-- To be believed (demand 1). What a layout is made of, and the one way to read it: fields from left to right, each first for presence and then for content.
 use Prim.Native.Nat.{ℕ, zero, suc}
 use mathlib.Core.List.{List, [], _∷_, _++_}
 use mathlib.Core.Bool.{Bool, cond, _||_}

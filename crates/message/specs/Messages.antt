@@ -1,4 +1,4 @@
--- The message that a layout's numbers make, and what reading any bytes gives.
+-- To be believed (demand 1). The message that a layout's numbers make, and what reading any bytes gives.
 use Prim.Native.Nat.{ℕ}
 use mathlib.Core.List.{List, []}
 use mathlib.Core.Bool.{Bool, not, cond}

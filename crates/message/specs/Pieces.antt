@@ -1,4 +1,4 @@
--- Writing in a shorter form, which code and proofs use: a message is a list of pieces, what lies in the source in its layout being one
+-- For contracts only. Writing in a shorter form, which code and proofs use: a message is a list of pieces, what lies in the source in its layout being one
 -- piece that is judged as a whole. It gives what the definition of writing gives (proofs/Short).
 use Prim.Native.Nat.{ℕ, _+_, _-_}
 use mathlib.Core.List.{List, [], _∷_, _++_}

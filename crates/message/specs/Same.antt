@@ -1,4 +1,4 @@
--- What a message says, apart from where its parts lie.
+-- To be believed (demand 2). What a message says, apart from where its parts lie.
 use Prim.Native.Nat.{ℕ}
 use mathlib.Core.List.{List, [], _∷_}
 use mathlib.Core.Path.{_≡_}

@@ -1,4 +1,4 @@
--- What each version allows (document 01, "Layouts" and refusals 1 and 3).
+-- To be believed (demand 1). What each version allows (document 01, "Layouts" and refusals 1 and 3).
 use mathlib.Core.Bool.{Bool, false, not, _&&_, _||_}
 use mathlib.Core.Option.{Option, none, some}
 use lib.Dec.{leb}

@@ -1,4 +1,4 @@
--- What writing a message gives, over the layouts that reading interprets: the message's bytes, or the first refusal
+-- To be believed (demand 2). What writing a message gives, over the layouts that reading interprets: the message's bytes, or the first refusal
 -- (document 01, the paragraph on writing under "The refusal table").
 use Prim.Native.Nat.{ℕ, zero, suc, _+_, _-_}
 use mathlib.Core.List.{List, [], _∷_, _++_}

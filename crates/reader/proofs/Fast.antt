@@ -10,7 +10,8 @@ use lib.ListN.{length, getD}
 use Rattle.wire.specs.declared.Cursor.{Cursor}
 use Rattle.wire.specs.declared.Cursor.the-variants.{At, Refused}
 use Rattle.wire.specs.declared.Field8.{Field8}
-use Rattle.wire.specs.Fields.{letterField, valueField, valueEnd, member, positionOf}
+use Rattle.wire.specs.Fields.{letterField, valueField, member, positionOf}
+use Rattle.wire.specs.ValueEnd.{valueEnd}
 use Rattle.wire.proofs.Cases.{letter-cases}
 use Rattle.wire.proofs.There.{no}
 use Rattle.wire.proofs.Values.{end-of-value}

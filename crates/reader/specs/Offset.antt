@@ -1,4 +1,4 @@
--- Where a tuple ends, as a plain offset.
+-- For contracts only. Where a tuple ends, as a plain offset.
 use Prim.Native.Nat.{ℕ}
 use mathlib.Core.List.{List}
 use mathlib.Core.Bool.{cond}

@@ -1,4 +1,4 @@
--- An Update's old tuple as the reader hands it on.
+-- For contracts only. An Update's old tuple as the reader hands it on.
 use mathlib.Core.List.{List}
 use Prim.Native.Nat.{ℕ}
 use Rattle.wire.specs.declared.Cursor.{Cursor}

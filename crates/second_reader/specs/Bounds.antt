@@ -1,4 +1,4 @@
--- what holds of each answer, whatever the bytes are
+-- For contracts only. What holds of each answer, whatever the bytes are
 use mathlib.Core.Path.{_≡_}
 use Prim.Native.Nat.{ℕ, _≤_, _<_}
 use Rattle.second_reader.specs.declared.Step.{Step}

@@ -3,7 +3,7 @@
 use Prim.Native.Nat.{ℕ, _+_, _≤_}
 use mathlib.Core.List.{List, [], _∷_}
 use mathlib.Core.Bool.{Bool, true, false, cond, _&&_}
-use mathlib.Core.Path.{_≡_, refl, ap, _∙_}
+use mathlib.Core.Path.{_≡_, refl}
 use native.Mathlib.Omega.{arith}
 use borrow.Author.Tests.{leb-true}
 use lib.Dec.{leb}
@@ -13,12 +13,12 @@ use Rattle.wire.specs.declared.Word.the-variants.{Value, Short}
 use Rattle.wire.specs.declared.Cursor.{Cursor}
 use Rattle.wire.specs.declared.Cursor.the-variants.{At, Refused}
 use Rattle.wire.specs.Numbers.{wordAt, most32}
-use Rattle.wire.specs.Fields.{numberField, judged, noNumber, letterField}
+use Rattle.wire.specs.Fields.{numberField, judged, noNumber}
 use Rattle.wire.proofs.Fields.{value-le}
 use Rattle.message.specs.declared.Version.{Version}
 use Rattle.message.specs.declared.Message.{Message}
 use Rattle.message.specs.declared.Read.the-variants as read
-use Rattle.message.specs.Layout.{Part, id, numberOf, one, tuple, optionalTuple, text, xidField, readFields}
+use Rattle.message.specs.Layout.{Part, id, numberOf, one, text, xidField, readFields}
 use Rattle.message.specs.Kinds.{Kind, begin, commit, origin, relation, type, insert, update, delete, truncate, message, streamStart, streamStop, streamCommit, streamAbort, layout, identity, columns, lsn, time, flags, xid}
 use Rattle.message.specs.Messages.{messageOf, readMessage, largest}
 use Rattle.message.proofs.Accepted.{reached, accepted}

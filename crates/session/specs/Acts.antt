@@ -1,4 +1,4 @@
--- What the session's code hands on: what is heard, with a Change's tuples as numbers and a Truncate's OIDs by where they start; a rule's refusal as its number.
+-- For contracts only. What the session's code hands on: what is heard, with a Change's tuples as numbers and a Truncate's OIDs by where they start; a rule's refusal as its number.
 use Prim.Native.Nat.{ℕ, _%_}
 use mathlib.Core.List.{List, [], _∷_}
 use mathlib.Core.Bool.{true, false, cond}

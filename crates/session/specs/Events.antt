@@ -1,4 +1,4 @@
--- What the session's rules look at in a message: an event.
+-- To be believed (demand 3). What the session's rules look at in a message: an event.
 use Prim.Native.Nat.{ℕ, zero, suc}
 use mathlib.Core.List.{List, [], _∷_}
 use mathlib.Core.Bool.{Bool}

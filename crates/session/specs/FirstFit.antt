@@ -1,4 +1,4 @@
--- THE LAYOUT BEFORE: 256 rows in any order, of which those with OID 0 are free; a search goes from the first on. No code has it now.
+-- To be believed (`same-answers` alone). THE LAYOUT BEFORE: 256 rows in any order, of which those with OID 0 are free; a search goes from the first on. No code has it now.
 use Prim.Native.Nat.{ℕ}
 use mathlib.Core.List.{List}
 use mathlib.Core.Bool.{Bool, cond, not, _&&_}

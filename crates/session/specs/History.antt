@@ -1,4 +1,4 @@
--- HISTORY (document 01): the messages accepted so far, and what they say. No record, no table and no rule is known here.
+-- To be believed (demand 3). HISTORY (document 01): the messages accepted so far, and what they say. No record, no table and no rule is known here.
 use Prim.Native.Nat.{ℕ}
 use mathlib.Core.List.{List, [], _∷_}
 use mathlib.Core.Bool.{Bool, true, false, cond, not, _||_, _&&_}

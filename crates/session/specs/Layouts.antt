@@ -1,4 +1,4 @@
--- A session over any layout of the announcements, with no record: each message is heard and answered, and an accepted one makes the next state.
+-- To be believed (`same-answers` alone). A session over any layout of the announcements, with no record: each message is heard and answered, and an accepted one makes the next state.
 -- The list theorem does not need this file; that two layouts answer alike does.
 use Prim.Native.Nat.{ℕ}
 use mathlib.Core.List.{List, [], _∷_}

@@ -1,4 +1,4 @@
--- A list of messages in one slice of bytes: each ends where `ends` says and starts where the one before ended.
+-- To be believed (`last_answer` alone). A list of messages in one slice of bytes: each ends where `ends` says and starts where the one before ended.
 use Prim.Native.Nat.{ℕ, _-_}
 use mathlib.Core.List.{List, [], _∷_}
 use mathlib.Core.Bool.{cond, _&&_}

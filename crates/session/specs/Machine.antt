@@ -1,4 +1,4 @@
--- The session's record, what one step makes of it, and the record of a fresh session.
+-- For contracts only. The session's record, what one step makes of it, and the record of a fresh session.
 -- Nobody has to believe this file: a step of the code equals `stepOf`, its start `startOf`, and the list theorem shows what they answer.
 use Prim.Native.Nat.{ℕ, _%_}
 use mathlib.Core.List.{List, [], _∷_}

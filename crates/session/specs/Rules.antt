@@ -1,4 +1,4 @@
--- THE SESSION'S RULES (document 01): the only choice of rule, over what a rule may look at; and the answers to a list of messages, over history.
+-- To be believed (demand 3). THE SESSION'S RULES (document 01): the only choice of rule, over what a rule may look at; and the answers to a list of messages, over history.
 use Prim.Native.Nat.{ℕ}
 use mathlib.Core.List.{List, [], _∷_}
 use mathlib.Core.Bool.{Bool, true, false, cond, not, _||_, _&&_}

@@ -1,4 +1,4 @@
--- What a session answers to a list of messages, and the record that they leave: each goes to the record as the last one left it.
+-- To be believed (demand 3). What a session answers to a list of messages, and the record that they leave: each goes to the record as the last one left it.
 use mathlib.Core.List.{List, [], _∷_}
 use Rattle.session.specs.declared.Answer.{Answer}
 use Rattle.session.specs.declared.Session.{Session}

@@ -1,4 +1,4 @@
--- What a session keeps, in whatever way it lies in its record, and what a message makes of it.
+-- For contracts only. What a session keeps, in whatever way it lies in its record, and what a message makes of it.
 -- Nobody has to believe this file: the list theorem shows that it answers as the rules over history do.
 use Prim.Native.Nat.{ℕ}
 use mathlib.Core.Bool.{Bool, true, false, cond}

@@ -1,4 +1,4 @@
--- TURNS (request 105): two neighbouring blocks of different streamed transactions may change places.
+-- To be believed (the order of turns). TURNS (request 105): two neighbouring blocks of different streamed transactions may change places.
 use Prim.Native.Nat.{ℕ}
 use mathlib.Core.Path.{_≡_}
 use mathlib.Core.List.{List, [], _∷_, _++_}

@@ -1,4 +1,4 @@
--- The values and columns that the round trips speak of.
+-- To be believed (binary values). The values and columns that the round trips speak of.
 use Prim.Native.Nat.{ℕ, suc, _+_, _^_, _<_}
 use mathlib.Core.List.{List, [], _∷_, _++_}
 use mathlib.Core.Path.{_≡_}

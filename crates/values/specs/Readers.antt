@@ -1,4 +1,4 @@
--- A column reader's step past a binary column: a step at its position.
+-- To be believed (binary values). A column reader's step past a binary column: a step at its position.
 use Prim.Native.Nat.{ℕ}
 use mathlib.Core.List.{List}
 use denote.Ref.{now}

@@ -1,4 +1,4 @@
--- One step past a binary column, from any position (document 02, #109): over the same fields and steps as `columns`.
+-- To be believed (binary values). One step past a binary column, from any position (document 02, #109): over the same fields and steps as `columns`.
 use Prim.Native.Nat.{ℕ}
 use mathlib.Core.List.{List, [], _∷_}
 use lib.ListN.{getD}

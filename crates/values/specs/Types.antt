@@ -1,4 +1,4 @@
--- The types whose binary values are numbers (document 02, #109): one table, and what each case of a value is.
+-- To be believed (binary values). The types whose binary values are numbers (document 02, #109): one table, and what each case of a value is.
 use Prim.Native.Nat.{ℕ}
 use mathlib.Core.List.{List, [], _∷_}
 use mathlib.Core.Bool.{Bool, true, false, cond, _&&_, _||_}

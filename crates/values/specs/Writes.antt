@@ -1,4 +1,4 @@
--- What writing a value gives (document 02, #109).
+-- To be believed (binary values). What writing a value gives (document 02, #109).
 use Prim.Native.Nat.{ℕ, _+_}
 use mathlib.Core.List.{List}
 use mathlib.Core.Bool.{cond}

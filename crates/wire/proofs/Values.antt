@@ -9,7 +9,8 @@ use lib.ListN.{length}
 use lib.Dec.{leb}
 use Rattle.wire.specs.declared.Cursor.the-variants.{At}
 use Rattle.wire.specs.Numbers.{be, wordAt}
-use Rattle.wire.specs.Fields.{numberField, bytesField, valueField, valueEnd, positionOf}
+use Rattle.wire.specs.Fields.{numberField, bytesField, valueField, positionOf}
+use Rattle.wire.specs.ValueEnd.{valueEnd}
 
 module _ (xs : List ℕ) (at : ℕ) where
   pub end-short : length xs < at + 4 → valueEnd xs at ≡ 0

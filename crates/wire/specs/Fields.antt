@@ -1,4 +1,4 @@
--- One field at a cursor: first whether it is there, then what it holds (document 01, "The refusal table").
+-- To be believed (demand 1). One field at a cursor: first whether it is there, then what it holds (document 01, "The refusal table").
 -- A cursor that has refused stays as it is, so that a layout is read from left to right with no branches.
 use Prim.Native.Nat.{ℕ, suc, _+_}
 use mathlib.Core.List.{List, [], _∷_}
@@ -14,7 +14,7 @@ use Rattle.wire.specs.declared.Field16.{Field16}
 use Rattle.wire.specs.declared.Field32.{Field32}
 use Rattle.wire.specs.declared.Field64.{Field64}
 use Rattle.wire.specs.declared.FieldSpan.{FieldSpan}
-use Rattle.wire.specs.Numbers.{be, wordAt}
+use Rattle.wire.specs.Numbers.{wordAt}
 
 -- A NUMBER
 
@@ -96,13 +96,3 @@ valueField xs c = let l = numberField 4 0 0x7FFFFFFF 4 xs c in bytesField (l .va
 abbrev pub positionOf : Cursor → ℕ
 positionOf (At at) = at
 positionOf (Refused m at) = 0
-
--- THE GOOD PATH OF A VALUE
-
--- where a length and its bytes end, the length taken as unsigned, and 0 where they go past the end.
--- In a list of at most 0x7FFFFFFF bytes this is the position that `valueField` ends at (proofs/Values)
-unfoldable pub valueEnd : List ℕ → ℕ → ℕ
-valueEnd xs at =
-    cond (leb (at + 4) (length xs))
-    (cond (leb (at + 4 + be 4 xs at) (length xs)) (at + 4 + be 4 xs at) 0)
-    0

@@ -1,4 +1,4 @@
--- Lists: tests over their elements, whether one passes, how many pass, those that pass; the first of a list of numbers, and the rest. Pairs of numbers.
+-- To be believed (demand 3, where its definitions name these). Lists: tests over their elements, whether one passes, how many pass, those that pass; the first of a list of numbers, and the rest. Pairs of numbers.
 use Prim.Native.Nat.{ℕ, suc, _+_}
 use mathlib.Core.List.{List, [], _∷_}
 use mathlib.Core.Bool.{Bool, false, cond, _||_, _&&_}

@@ -1,4 +1,4 @@
--- Big-endian numbers in a list of bytes, over the width.
+-- To be believed (demand 1). Big-endian numbers in a list of bytes, over the width.
 use Prim.Native.Nat.{ℕ, zero, suc, _+_, _*_}
 use mathlib.Core.List.{List}
 use mathlib.Core.Bool.{cond}

@@ -5,7 +5,8 @@ ghost use lib.IntN.{ℤ};
 ghost use mir.Val.{toZ, ofZ};
 ghost use mir.Syntax.{w16, w32, w64};
 ghost use Rattle.wire.specs.Numbers.{wordAt};
-ghost use Rattle.wire.specs.Fields.{member, numberField, letterField, untilZero, textField, bytesField, valueField, valueEnd, narrow8, narrow16, narrow32, positionOf};
+ghost use Rattle.wire.specs.Fields.{member, numberField, letterField, untilZero, textField, bytesField, valueField, narrow8, narrow16, narrow32, positionOf};
+ghost use Rattle.wire.specs.ValueEnd.{valueEnd};
 
 // Why and where a message was refused: the number of the refusal table, and an offset.
 pub struct Refusal {

@@ -1,4 +1,4 @@
--- What `write_message` answers, and what the output holds then.
+-- To be believed (demand 2). What `write_message` answers, and what the output holds then.
 use Prim.Native.Nat.{ℕ}
 use mathlib.Core.List.{List, _++_}
 use mathlib.Core.Bool.{cond}

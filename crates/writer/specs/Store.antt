@@ -1,4 +1,4 @@
--- Storing where there is room: the output, and where storing stands in it.
+-- For contracts only. Storing where there is room: the output, and where storing stands in it.
 use Prim.Native.Nat.{ℕ, _+_}
 use mathlib.Core.List.{List, [], _∷_, _++_}
 use mathlib.Core.Bool.{cond}

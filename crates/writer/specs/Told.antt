@@ -1,4 +1,4 @@
--- What a writing answers in numbers, as C sees it.
+-- To be believed (for C). What a writing answers in numbers, as C sees it.
 use Prim.Native.Nat.{ℕ}
 use mathlib.Core.List.{List}
 use mathlib.Core.Path.{_≡_}

@@ -55,7 +55,8 @@ use contract.BorrowLft.{meet-⊑-right}
 use borrow.Within.Token.{Rest, within-token, within-end}
 use denote.Memory.{partOf}
 use denote.Lend.{lends-ref, ref-back}
-use Rattle.columns.specs.Readers.{movedAt, movedTo, spanOf}
+use Rattle.columns.specs.Readers.{movedTo, spanOf}
+use Rattle.columns.specs.Code.{movedAt}
 use Rattle.columns.specs.Parts.{VeryPart}
 use Rattle.columns.specs.declared.Column.{Column}
 use Rattle.columns.proofs.Column as E

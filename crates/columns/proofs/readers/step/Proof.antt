@@ -51,7 +51,8 @@ use Rattle.columns.proofs.ColumnReader.Laws as T′
 use types.Run.{store}
 use mathlib.Core.Path.{subst}
 use denote.Memory.{lone}
-use Rattle.columns.specs.Readers.{movedAt, spanOf}
+use Rattle.columns.specs.Readers.{spanOf}
+use Rattle.columns.specs.Code.{movedAt}
 use Rattle.columns.specs.Parts.{VeryPart}
 use Rattle.columns.specs.declared.Column.{Column}
 use Rattle.columns.specs.declared.Moved.{Moved}

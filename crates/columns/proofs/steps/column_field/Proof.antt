@@ -1,5 +1,5 @@
 use Rattle.message.specs.Layout.{columnValue, columnEnd}
-use Rattle.columns.specs.Steps.{columnField}
+use Rattle.columns.specs.Code.{columnField}
 use Rattle.columns.proofs.steps.column_field.Statement.{statement}
 use Rattle.columns.proofs.steps.column_field.Tie as tie
 

@@ -1,4 +1,4 @@
-use Rattle.columns.specs.Steps.{relationField}
+use Rattle.columns.specs.Code.{relationField}
 use Rattle.columns.proofs.steps.relation_field.Statement.{statement}
 use Rattle.columns.proofs.steps.relation_field.Tie as tie
 

@@ -3,7 +3,8 @@ use borrow.Author.Tests.{eq-eqb, ne-eqb}
 use mir.Syntax.{w32}
 use mir.ValLaws.{toZ-ofZ}
 use Rattle.columns.specs.declared.RelationField.{RelationField}
-use Rattle.columns.specs.Steps.{relationField, relationStep}
+use Rattle.columns.specs.Steps.{relationStep}
+use Rattle.columns.specs.Code.{relationField}
 use borrow.Author.Needs.{needs}
 use Rattle.columns.proofs.steps.relation_step.Statement.{statement}
 use Rattle.columns.proofs.steps.relation_step.Tie as tie

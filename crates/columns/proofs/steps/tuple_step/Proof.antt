@@ -1,7 +1,8 @@
 use mathlib.Core.Path.{ap, sym, _∙_}
 use borrow.Author.Tests.{eq-eqb, ne-eqb}
 use Rattle.columns.specs.declared.ColumnField.{ColumnField}
-use Rattle.columns.specs.Steps.{columnField, tupleStep}
+use Rattle.columns.specs.Steps.{tupleStep}
+use Rattle.columns.specs.Code.{columnField}
 use borrow.Author.Needs.{needs}
 use Rattle.columns.proofs.steps.tuple_step.Statement.{statement}
 use Rattle.columns.proofs.steps.tuple_step.Tie as tie
