@@ -66,29 +66,28 @@ Shows n xs ps s q = (returned s ≡ stepNumbers n xs ps) × (moved s q ps ≡ mo
 
 -- what is shown of each answer, said once over the fields of what is stepped through
 module _ (xs ps : List ℕ) (fs : List Field) (show : StepAnswer → Shown) where
-  p : Position
+  abbrev p : Position
   p = positionIn ps
 
-  g : Step
+  abbrev g : Step
   g = readGroup fs xs (At (p .offset))
 
   step-shown :
       show over ≡ nothing → ((e : ℕ) → show (gives (g .values) e) ≡ past (g .values)) → ((n o : ℕ) → show (refused n o) ≡ refusal n o)
       → (let s = stepAt fs xs p in (returned (show s) ≡ numbersOf s) × (moved (show s) (after s p) ps ≡ movedBy s ps))
-  unfolding p g
-  step-shown none some no = go (eqb (p .left) 0) (g .next)
+  step-shown ended passed refusing = go (eqb (p .left) 0) (g .next)
     where
       go : (b : Bool) (c : Cursor) → (let s = cond b over (stood (g .values) c) in (returned (show s) ≡ numbersOf s) × (moved (show s) (after s p) ps ≡ movedBy s ps))
-      go true c = rw none (refl, refl)
-      go false (At e) = rw (some e) (refl, refl)
-      go false (Refused n o) = rw (no n o) (refl, refl)
+      go true c = rw ended (refl, refl)
+      go false (At e) = rw (passed e) (refl, refl)
+      go false (Refused n o) = rw (refusing n o) (refl, refl)
 
 pub tuple-shown : (xs ps : List ℕ) (r : TupleStep) (k : Column) → r ≡ tupleStep xs (positionIn ps) → r .column ≡ k → Shows 0 xs ps (ofTuple k) (r .next)
-unfolding tupleStep stepNumbers movedOn g
+unfolding tupleStep stepNumbers movedOn
 tuple-shown xs ps r k d e = rw (sym e, d) (step-shown xs ps (column ∷ []) (λ s. ofTuple (tupleColumn s)) refl (λ e. refl) (λ n o. refl))
 
 pub relation-shown : (xs ps : List ℕ) (r : RelationStep) (k : RelationColumn) → r ≡ relationStep xs (positionIn ps) → r .column ≡ k → Shows 2 xs ps (ofRelation k) (r .next)
-unfolding relationStep stepNumbers movedOn g p
+unfolding relationStep stepNumbers movedOn
 relation-shown xs ps r k d e =
     rw (sym e, d)
     (step-shown xs ps columnFields (λ s. ofRelation (relationColumn s)) refl
@@ -102,7 +101,7 @@ relation-shown xs ps r k d e =
     m = numberField 4 0 most32 4 xs at .value
 
 pub oid-shown : (xs ps : List ℕ) (r : OidStep) (k : TruncatedRelation) → r ≡ oidStep xs (positionIn ps) → r .relation ≡ k → Shows 3 xs ps (ofOid k) (r .next)
-unfolding oidStep stepNumbers movedOn g
+unfolding oidStep stepNumbers movedOn
 oid-shown xs ps r k d e = rw (sym e, d) (step-shown xs ps (id ∷ []) (λ s. ofOid (truncatedRelation s)) refl (λ e. refl) (λ n o. refl))
 
 -- an old tuple is stepped through as a new one
