@@ -1,5 +1,4 @@
 // Stepping through a tuple, a Relation's columns and a Truncate's OIDs: the words that it answers in, and a part of the message.
-ghost use mathlib.Core.Path.{_≡_};
 ghost use Rattle.columns.specs.Parts.{VeryPart};
 use wire::Cursor;
 use wire::Refusal;

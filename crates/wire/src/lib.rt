@@ -1,7 +1,6 @@
 ghost use mathlib.Core.Path.{_≡_};
 ghost use Prim.Native.Nat.{_+_, _≤_};
 ghost use lib.ListN.{drop};
-ghost use lib.IntN.{ℤ};
 ghost use mir.Val.{toZ, ofZ};
 ghost use mir.Syntax.{w16, w32, w64};
 ghost use Rattle.wire.specs.Numbers.{wordAt};

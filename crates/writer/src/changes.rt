@@ -282,11 +282,7 @@ pub fn write_logical_message(
         0,
         judging::judge_number(1, 0, 1, Refusal::FIELD, flags as u64),
     );
-    let next = judging::advance(
-        next,
-        0,
-        judging::judge_number(8, 0, u64::MAX, Refusal::FIELD, lsn),
-    );
+    let next = judging::advance(next, 0, judging::judge_long(lsn));
     let next = judging::advance(next, 0, judging::judge_text(source, prefix));
     let next = judging::advance(next, 0, Cursor::At(4));
     let next = judging::advance(next, 0, judging::judge_content(source, content));

@@ -3,6 +3,7 @@ ghost use mathlib.Core.Path.{_≡_};
 ghost use Prim.Native.Nat.{_+_, _-_};
 ghost use lib.Dec.{leb};
 ghost use Rattle.wire.specs.declared.Cursor.the-variants.{At};
+ghost use Rattle.wire.specs.Numbers.{most64};
 ghost use Rattle.wire.specs.Fields.{inRange, member};
 ghost use Rattle.message.specs.Layout.{tupleEnd};
 ghost use Rattle.message.specs.Encode.{cut};
@@ -102,6 +103,13 @@ pub fn judge_number(width: usize, low: u64, high: u64, refusal: u8, value: u64) 
         number: refusal,
         offset: 0,
     }
+}
+
+// Any number of 64 bits.
+pub fn judge_long(value: u64) -> Cursor
+    ensures { λ r. ⌜ r ≡ tested (inRange 0 most64 value) 8 4 ⌝ }
+{
+    judge_number(8, 0, u64::MAX, Refusal::FIELD, value)
 }
 
 // An id that is not 0.

@@ -44,16 +44,8 @@ pub fn write_begin(version: Version, in_block: bool, m: Begin, out: &mut [u8]) -
         xid,
     } = m;
     let next = judging::open(version, in_block, kind::BEGIN);
-    let next = judging::advance(
-        next,
-        0,
-        judging::judge_number(8, 0, u64::MAX, Refusal::FIELD, final_lsn),
-    );
-    let next = judging::advance(
-        next,
-        0,
-        judging::judge_number(8, 0, u64::MAX, Refusal::FIELD, wire::bits64(time)),
-    );
+    let next = judging::advance(next, 0, judging::judge_long(final_lsn));
+    let next = judging::advance(next, 0, judging::judge_long(wire::bits64(time)));
     let next = judging::advance(next, 0, judging::judge_id(xid));
     let next = judging::fit(next, out.len());
     match next {
@@ -97,21 +89,9 @@ pub fn write_commit(version: Version, in_block: bool, m: Commit, out: &mut [u8])
         0,
         judging::judge_number(1, 0, 0, Refusal::FIELD, flags as u64),
     );
-    let next = judging::advance(
-        next,
-        0,
-        judging::judge_number(8, 0, u64::MAX, Refusal::FIELD, commit_lsn),
-    );
-    let next = judging::advance(
-        next,
-        0,
-        judging::judge_number(8, 0, u64::MAX, Refusal::FIELD, end_lsn),
-    );
-    let next = judging::advance(
-        next,
-        0,
-        judging::judge_number(8, 0, u64::MAX, Refusal::FIELD, wire::bits64(time)),
-    );
+    let next = judging::advance(next, 0, judging::judge_long(commit_lsn));
+    let next = judging::advance(next, 0, judging::judge_long(end_lsn));
+    let next = judging::advance(next, 0, judging::judge_long(wire::bits64(time)));
     let next = judging::fit(next, out.len());
     match next {
         Cursor::Refused { number, offset } => judging::refused(number, offset),
@@ -143,11 +123,7 @@ pub fn write_origin(
 {
     let Origin { lsn, name } = m;
     let next = judging::open(version, in_block, kind::ORIGIN);
-    let next = judging::advance(
-        next,
-        0,
-        judging::judge_number(8, 0, u64::MAX, Refusal::FIELD, lsn),
-    );
+    let next = judging::advance(next, 0, judging::judge_long(lsn));
     let next = judging::advance(next, 0, judging::judge_text(source, name));
     let next = judging::fit(next, out.len());
     match next {
@@ -249,21 +225,9 @@ pub fn write_stream_commit(
         0,
         judging::judge_number(1, 0, 0, Refusal::FIELD, flags as u64),
     );
-    let next = judging::advance(
-        next,
-        0,
-        judging::judge_number(8, 0, u64::MAX, Refusal::FIELD, commit_lsn),
-    );
-    let next = judging::advance(
-        next,
-        0,
-        judging::judge_number(8, 0, u64::MAX, Refusal::FIELD, end_lsn),
-    );
-    let next = judging::advance(
-        next,
-        0,
-        judging::judge_number(8, 0, u64::MAX, Refusal::FIELD, wire::bits64(time)),
-    );
+    let next = judging::advance(next, 0, judging::judge_long(commit_lsn));
+    let next = judging::advance(next, 0, judging::judge_long(end_lsn));
+    let next = judging::advance(next, 0, judging::judge_long(wire::bits64(time)));
     let next = judging::fit(next, out.len());
     match next {
         Cursor::Refused { number, offset } => judging::refused(number, offset),

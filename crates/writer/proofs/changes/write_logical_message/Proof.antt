@@ -20,7 +20,7 @@ judged c =
       c .before .before .before .before .before .before .before .before .before .before .advance .ensures,
       c .before .before .judge-content .ensures,
       c .before .before .before .before .before .judge-text .ensures,
-      c .before .before .before .before .before .before .before .judge-number2 .ensures,
+      c .before .before .before .before .before .before .before .judge-long .ensures,
       c .before .before .before .before .before .before .before .before .before .judge-number .ensures,
       c .before .before .before .before .before .before .before .before .before .before .before .judge-xid .ensures,
       c .before .before .before .before .before .before .before .before .before .before .before .before .open .ensures,
@@ -44,8 +44,8 @@ judge-number-requires c κs = tt
 advance-requires-2 : tie.Need-advance-requires-2
 advance-requires-2 c κs = tt
 
-judge-number-requires-2 : tie.Need-judge-number-requires-2
-judge-number-requires-2 c κs = tt
+judge-long-requires : tie.Need-judge-long-requires
+judge-long-requires c κs = tt
 
 advance-requires-3 : tie.Need-advance-requires-3
 advance-requires-3 c κs = tt
@@ -110,7 +110,7 @@ write-logical-message-spec =
     cast-judge-number
     judge-number-requires
     advance-requires-2
-    judge-number-requires-2
+    judge-long-requires
     advance-requires-3
     judge-text-requires
     advance-requires-4

@@ -24,9 +24,9 @@ judged c src =
       c .before .before .before .advance2 .ensures,
       c .before .before .before .before .before .before .advance .ensures,
       c .before .before .judge-id .ensures,
-      c .before .before .before .before .judge-number2 .ensures,
+      c .before .before .before .before .judge-long2 .ensures,
       c .before .before .before .before .before .bits64 .ensures,
-      c .before .before .before .before .before .before .before .judge-number .ensures,
+      c .before .before .before .before .before .before .before .judge-long .ensures,
       toZ-ofZ w64 (c .before .before .before .before .before .before .before .before .before .before .before .args .m .time) (fits (c .before .before .before .before .before .before .before .before .before .before .before)),
       c .before .before .before .before .before .before .before .before .open .ensures,
     )
@@ -34,8 +34,8 @@ judged c src =
 open-requires : tie.Need-open-requires
 open-requires c κs = tt
 
-judge-number-requires : tie.Need-judge-number-requires
-judge-number-requires c κs = tt
+judge-long-requires : tie.Need-judge-long-requires
+judge-long-requires c κs = tt
 
 advance-requires : tie.Need-advance-requires
 advance-requires c κs = tt
@@ -43,8 +43,8 @@ advance-requires c κs = tt
 bits64-requires : tie.Need-bits64-requires
 bits64-requires c κs = tt
 
-judge-number-requires-2 : tie.Need-judge-number-requires-2
-judge-number-requires-2 c κs = tt
+judge-long-requires-2 : tie.Need-judge-long-requires-2
+judge-long-requires-2 c κs = tt
 
 advance-requires-2 : tie.Need-advance-requires-2
 advance-requires-2 c κs = tt
@@ -95,10 +95,10 @@ write-begin-spec =
     tie.close
     (tie.spec
     open-requires
-    judge-number-requires
+    judge-long-requires
     advance-requires
     bits64-requires
-    judge-number-requires-2
+    judge-long-requires-2
     advance-requires-2
     judge-id-requires
     advance-requires-3

@@ -15,15 +15,15 @@ judged c =
       c .before .advance2 .ensures,
       c .before .before .before .advance .ensures,
       c .before .before .judge-text .ensures,
-      c .before .before .before .before .judge-number .ensures,
+      c .before .before .before .before .judge-long .ensures,
       c .before .before .before .before .before .open .ensures,
     )
 
 open-requires : tie.Need-open-requires
 open-requires c κs = tt
 
-judge-number-requires : tie.Need-judge-number-requires
-judge-number-requires c κs = tt
+judge-long-requires : tie.Need-judge-long-requires
+judge-long-requires c κs = tt
 
 advance-requires : tie.Need-advance-requires
 advance-requires c κs = tt
@@ -74,7 +74,7 @@ write-origin-spec =
     tie.close
     (tie.spec
     open-requires
-    judge-number-requires
+    judge-long-requires
     advance-requires
     judge-text-requires
     advance-requires-2

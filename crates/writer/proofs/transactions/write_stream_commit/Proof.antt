@@ -25,10 +25,10 @@ judged c src =
       c .before .before .before .before .before .before .advance3 .ensures,
       c .before .before .before .before .before .before .before .before .advance2 .ensures,
       c .before .before .before .before .before .before .before .before .before .before .advance .ensures,
-      c .before .before .judge-number4 .ensures,
+      c .before .before .judge-long3 .ensures,
       c .before .before .before .bits64 .ensures,
-      c .before .before .before .before .before .judge-number3 .ensures,
-      c .before .before .before .before .before .before .before .judge-number2 .ensures,
+      c .before .before .before .before .before .judge-long2 .ensures,
+      c .before .before .before .before .before .before .before .judge-long .ensures,
       c .before .before .before .before .before .before .before .before .before .judge-number .ensures,
       c .before .before .before .before .before .before .before .before .before .before .before .judge-id .ensures,
       toZ-ofZ w64 (c .before .before .before .before .before .before .before .before .before .before .before .before .before .before .before .args .m .time) (fits (c .before .before .before .before .before .before .before .before .before .before .before .before .before .before .before)),
@@ -53,14 +53,14 @@ judge-number-requires c κs = tt
 advance-requires-2 : tie.Need-advance-requires-2
 advance-requires-2 c κs = tt
 
-judge-number-requires-2 : tie.Need-judge-number-requires-2
-judge-number-requires-2 c κs = tt
+judge-long-requires : tie.Need-judge-long-requires
+judge-long-requires c κs = tt
 
 advance-requires-3 : tie.Need-advance-requires-3
 advance-requires-3 c κs = tt
 
-judge-number-requires-3 : tie.Need-judge-number-requires-3
-judge-number-requires-3 c κs = tt
+judge-long-requires-2 : tie.Need-judge-long-requires-2
+judge-long-requires-2 c κs = tt
 
 advance-requires-4 : tie.Need-advance-requires-4
 advance-requires-4 c κs = tt
@@ -68,8 +68,8 @@ advance-requires-4 c κs = tt
 bits64-requires : tie.Need-bits64-requires
 bits64-requires c κs = tt
 
-judge-number-requires-4 : tie.Need-judge-number-requires-4
-judge-number-requires-4 c κs = tt
+judge-long-requires-3 : tie.Need-judge-long-requires-3
+judge-long-requires-3 c κs = tt
 
 advance-requires-5 : tie.Need-advance-requires-5
 advance-requires-5 c κs = tt
@@ -119,12 +119,12 @@ write-stream-commit-spec =
     cast-judge-number
     judge-number-requires
     advance-requires-2
-    judge-number-requires-2
+    judge-long-requires
     advance-requires-3
-    judge-number-requires-3
+    judge-long-requires-2
     advance-requires-4
     bits64-requires
-    judge-number-requires-4
+    judge-long-requires-3
     advance-requires-5
     fit-requires
     enum-known-next
