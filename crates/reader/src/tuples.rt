@@ -42,7 +42,8 @@ fn columns_exact(s: &[u8], c: Cursor, n: u16) -> Cursor
     at
 }
 
-// Where a good column ends, and 0 where it is refused. In a message no length is too large for its sign.
+// Where a good column ends, and 0 where it is refused. In a message no length is too large for its sign. Whether the value can start where
+// it should is asked first: so that start is known before the length is loaded, and the next column waits for one sum and not for two.
 fn column_fast(s: &[u8], at: usize) -> usize
     requires { ⌜ length (now s) ≤ largest ⌝ }
     ensures { λ r. ⌜ r ≡ positionOf (columnEnd (now (s .entry)) (At at)) ⌝ }
@@ -53,7 +54,14 @@ fn column_fast(s: &[u8], at: usize) -> usize
     let next = at + 1;
     match s[at] {
         b'n' | b'u' => next,
-        b't' | b'b' => wire::value_end(s, next),
+        b't' | b'b' => {
+            let value = at + 5;
+            if s.len() < value {
+                0
+            } else {
+                wire::value_end(s, next)
+            }
+        }
         _ => 0,
     }
 }

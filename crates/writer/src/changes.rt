@@ -54,8 +54,8 @@ pub fn write_insert(
         relation,
         tuple,
     } = m;
-    let end = judging::judge_tuple(source, tuple);
     let next = judging::open(version, in_block, kind::INSERT);
+    let end = judging::judge_tuple(source, tuple);
     let next = judging::advance(next, 0, judging::judge_xid(in_block, xid));
     let next = judging::advance(next, 0, judging::judge_id(relation));
     let next = judging::advance(next, 0, Cursor::At(1));
@@ -110,9 +110,9 @@ pub fn write_update(
         old,
         tuple,
     } = m;
+    let next = judging::open(version, in_block, kind::UPDATE);
     let middle = judging::old_end(source, old);
     let end = judging::judge_tuple(source, tuple);
-    let next = judging::open(version, in_block, kind::UPDATE);
     let next = judging::advance(next, 0, judging::judge_xid(in_block, xid));
     let next = judging::advance(next, 0, judging::judge_id(relation));
     let next = judging::advance_old(next, old, middle);
@@ -160,8 +160,8 @@ pub fn write_delete(
         image,
         tuple,
     } = m;
-    let end = judging::judge_tuple(source, tuple);
     let next = judging::open(version, in_block, kind::DELETE);
+    let end = judging::judge_tuple(source, tuple);
     let next = judging::advance(next, 0, judging::judge_xid(in_block, xid));
     let next = judging::advance(next, 0, judging::judge_id(relation));
     let next = judging::advance(next, 0, judging::judge_letter(b"KO", image));
@@ -222,11 +222,7 @@ pub fn write_truncate(
             count as u64,
         ),
     );
-    let next = judging::advance(
-        next,
-        0,
-        judging::judge_number(1, 0, 3, Refusal::FIELD, options as u64),
-    );
+    let next = judging::advance(next, 0, judging::judge_byte(3, options));
     let next = judging::advance(next, relations, end);
     let next = judging::fit(next, out.len());
     match next {
@@ -277,11 +273,7 @@ pub fn write_logical_message(
     } = m;
     let next = judging::open(version, in_block, kind::MESSAGE);
     let next = judging::advance(next, 0, judging::judge_xid(in_block, xid));
-    let next = judging::advance(
-        next,
-        0,
-        judging::judge_number(1, 0, 1, Refusal::FIELD, flags as u64),
-    );
+    let next = judging::advance(next, 0, judging::judge_byte(1, flags));
     let next = judging::advance(next, 0, judging::judge_long(lsn));
     let next = judging::advance(next, 0, judging::judge_text(source, prefix));
     let next = judging::advance(next, 0, Cursor::At(4));

@@ -5,7 +5,7 @@ ghost use lib.Dec.{leb};
 ghost use Rattle.wire.specs.declared.Cursor.the-variants.{At};
 ghost use Rattle.wire.specs.Numbers.{most64};
 ghost use Rattle.wire.specs.Fields.{inRange, member};
-ghost use Rattle.message.specs.Layout.{tupleEnd};
+ghost use Rattle.message.specs.Layout.{tupleEnd, mostColumns};
 ghost use Rattle.message.specs.Encode.{cut};
 ghost use Rattle.message.specs.Kinds.{kindNumbered};
 ghost use Rattle.message.specs.Pieces.{opened, placed, advanced, tested, idJudgement, textJudgement, xidJudgement};
@@ -110,6 +110,26 @@ pub fn judge_long(value: u64) -> Cursor
     ensures { λ r. ⌜ r ≡ tested (inRange 0 most64 value) 8 4 ⌝ }
 {
     judge_number(8, 0, u64::MAX, Refusal::FIELD, value)
+}
+
+// A byte that is at most `most`.
+pub fn judge_byte(most: u8, value: u8) -> Cursor
+    ensures { λ r. ⌜ r ≡ tested (inRange 0 most value) 1 4 ⌝ }
+{
+    judge_number(1, 0, most as u64, Refusal::FIELD, value as u64)
+}
+
+// How many columns a relation has.
+pub fn judge_columns(count: u16) -> Cursor
+    ensures { λ r. ⌜ r ≡ tested (inRange 0 mostColumns count) 2 6 ⌝ }
+{
+    judge_number(
+        2,
+        0,
+        message::MOST_COLUMNS as u64,
+        Refusal::RANGE,
+        count as u64,
+    )
 }
 
 // An id that is not 0.

@@ -68,17 +68,7 @@ pub fn write_relation(
     let next = judging::advance(next, 0, judging::judge_text(source, namespace));
     let next = judging::advance(next, 0, judging::judge_text(source, name));
     let next = judging::advance(next, 0, judging::judge_letter(b"dnfi", identity));
-    let next = judging::advance(
-        next,
-        0,
-        judging::judge_number(
-            2,
-            0,
-            message::MOST_COLUMNS as u64,
-            Refusal::RANGE,
-            count as u64,
-        ),
-    );
+    let next = judging::advance(next, 0, judging::judge_columns(count));
     let next = judging::advance(next, columns, end);
     let next = judging::fit(next, out.len());
     match next {

@@ -18,7 +18,6 @@ use message::StreamCommit;
 use message::Version;
 use message::kind;
 use wire::Cursor;
-use wire::Refusal;
 
 fn store_begin(out: &mut [u8], m: Begin)
     requires { ⌜ length (bytesOf (messagePieces false (a.Begin m) [])) ≤ length (now out) ⌝ }
@@ -84,11 +83,7 @@ pub fn write_commit(version: Version, in_block: bool, m: Commit, out: &mut [u8])
         time,
     } = m;
     let next = judging::open(version, in_block, kind::COMMIT);
-    let next = judging::advance(
-        next,
-        0,
-        judging::judge_number(1, 0, 0, Refusal::FIELD, flags as u64),
-    );
+    let next = judging::advance(next, 0, judging::judge_byte(0, flags));
     let next = judging::advance(next, 0, judging::judge_long(commit_lsn));
     let next = judging::advance(next, 0, judging::judge_long(end_lsn));
     let next = judging::advance(next, 0, judging::judge_long(wire::bits64(time)));
@@ -155,11 +150,7 @@ pub fn write_stream_start(
 {
     let next = judging::open(version, in_block, kind::STREAM_START);
     let next = judging::advance(next, 0, judging::judge_id(xid));
-    let next = judging::advance(
-        next,
-        0,
-        judging::judge_number(1, 0, 1, Refusal::FIELD, first as u64),
-    );
+    let next = judging::advance(next, 0, judging::judge_byte(1, first));
     let next = judging::fit(next, out.len());
     match next {
         Cursor::Refused { number, offset } => judging::refused(number, offset),
@@ -220,11 +211,7 @@ pub fn write_stream_commit(
     } = m;
     let next = judging::open(version, in_block, kind::STREAM_COMMIT);
     let next = judging::advance(next, 0, judging::judge_id(xid));
-    let next = judging::advance(
-        next,
-        0,
-        judging::judge_number(1, 0, 0, Refusal::FIELD, flags as u64),
-    );
+    let next = judging::advance(next, 0, judging::judge_byte(0, flags));
     let next = judging::advance(next, 0, judging::judge_long(commit_lsn));
     let next = judging::advance(next, 0, judging::judge_long(end_lsn));
     let next = judging::advance(next, 0, judging::judge_long(wire::bits64(time)));

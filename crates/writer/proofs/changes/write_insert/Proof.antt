@@ -18,15 +18,15 @@ judged c =
       c .before .before .before .before .before .advance .ensures,
       c .before .before .before .before .judge-id .ensures,
       c .before .before .before .before .before .before .judge-xid .ensures,
-      c .before .before .before .before .before .before .before .before .judge-tuple .ensures,
-      c .before .before .before .before .before .before .before .open .ensures,
+      c .before .before .before .before .before .before .before .judge-tuple .ensures,
+      c .before .before .before .before .before .before .before .before .open .ensures,
     )
-
-judge-tuple-requires : tie.Need-judge-tuple-requires
-judge-tuple-requires c κs = tt
 
 open-requires : tie.Need-open-requires
 open-requires c κs = tt
+
+judge-tuple-requires : tie.Need-judge-tuple-requires
+judge-tuple-requires c κs = tt
 
 judge-xid-requires : tie.Need-judge-xid-requires
 judge-xid-requires c κs = tt
@@ -61,7 +61,7 @@ enum-known-next-2 c = search needs
 store-insert-requires : tie.Need-store-insert-requires
 store-insert-requires c κs =
     let s = c .before .before .before .before .before .before .before .before .before .before .before .before .before .before .before in (
-      c .before .before .before .before .before .before .before .before .before .before .before .before .judge-tuple .ensures,
+      c .before .before .before .before .before .before .before .before .before .before .before .judge-tuple .ensures,
       has-room (s .args .version) (s .args .in-block) (a.Insert (s .args .m)) (s .args .source .now) (s .args .out .now)
           (judged (c .before .before .before .before)) (c .before .before .before .before .fit .ensures) (c .before .before .next2 .given .1),
     )
@@ -87,8 +87,8 @@ pub write-insert-spec : {M : Type 1} → statement M
 write-insert-spec =
     tie.close
     (tie.spec
-    judge-tuple-requires
     open-requires
+    judge-tuple-requires
     judge-xid-requires
     advance-requires
     judge-id-requires

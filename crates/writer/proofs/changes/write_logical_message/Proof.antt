@@ -21,7 +21,7 @@ judged c =
       c .before .before .judge-content .ensures,
       c .before .before .before .before .before .judge-text .ensures,
       c .before .before .before .before .before .before .before .judge-long .ensures,
-      c .before .before .before .before .before .before .before .before .before .judge-number .ensures,
+      c .before .before .before .before .before .before .before .before .before .judge-byte .ensures,
       c .before .before .before .before .before .before .before .before .before .before .before .judge-xid .ensures,
       c .before .before .before .before .before .before .before .before .before .before .before .before .open .ensures,
     )
@@ -35,11 +35,8 @@ judge-xid-requires c κs = tt
 advance-requires : tie.Need-advance-requires
 advance-requires c κs = tt
 
-cast-judge-number : tie.Need-cast-judge-number
-cast-judge-number c = search needs
-
-judge-number-requires : tie.Need-judge-number-requires
-judge-number-requires c κs = tt
+judge-byte-requires : tie.Need-judge-byte-requires
+judge-byte-requires c κs = tt
 
 advance-requires-2 : tie.Need-advance-requires-2
 advance-requires-2 c κs = tt
@@ -107,8 +104,7 @@ write-logical-message-spec =
     open-requires
     judge-xid-requires
     advance-requires
-    cast-judge-number
-    judge-number-requires
+    judge-byte-requires
     advance-requires-2
     judge-long-requires
     advance-requires-3

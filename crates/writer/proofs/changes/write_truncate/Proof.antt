@@ -16,7 +16,7 @@ judged c =
       c .before .before .advance3 .ensures,
       c .before .before .before .before .advance2 .ensures,
       c .before .before .before .before .before .before .advance .ensures,
-      c .before .before .before .judge-number2 .ensures,
+      c .before .before .before .judge-byte .ensures,
       c .before .before .before .before .before .judge-number .ensures,
       c .before .before .before .before .before .before .before .judge-xid .ensures,
       c .before .before .before .before .before .before .before .before .before .relation-oids .ensures,
@@ -47,11 +47,8 @@ judge-number-requires c κs = tt
 advance-requires-2 : tie.Need-advance-requires-2
 advance-requires-2 c κs = tt
 
-cast-judge-number-3 : tie.Need-cast-judge-number-3
-cast-judge-number-3 c = search needs
-
-judge-number-requires-2 : tie.Need-judge-number-requires-2
-judge-number-requires-2 c κs = tt
+judge-byte-requires : tie.Need-judge-byte-requires
+judge-byte-requires c κs = tt
 
 advance-requires-3 : tie.Need-advance-requires-3
 advance-requires-3 c κs = tt
@@ -108,8 +105,7 @@ write-truncate-spec =
     cast-judge-number-2
     judge-number-requires
     advance-requires-2
-    cast-judge-number-3
-    judge-number-requires-2
+    judge-byte-requires
     advance-requires-3
     advance-requires-4
     fit-requires

@@ -21,19 +21,19 @@ judged c =
       c .before .before .before .before .before .before .advance .ensures,
       c .before .before .before .before .before .judge-id .ensures,
       c .before .before .before .before .before .before .before .judge-xid .ensures,
-      c .before .before .before .before .before .before .before .before .before .judge-tuple .ensures,
-      c .before .before .before .before .before .before .before .before .open .ensures,
+      c .before .before .before .before .before .before .before .before .judge-tuple .ensures,
+      c .before .before .before .before .before .before .before .before .before .before .open .ensures,
     )
-    (old-steps (c .before .before .before .before .before .before .before .before .before .before .before .before .before .args .source .now) (c .before .before .before .before .before .before .before .before .before .before .before .before .before .args .m .old) (c .before .before .before .before .before .before .before .before .before .before .old-end .ensures) _ (bytePiece 0x4E ∷ tuplePiece (c .before .before .before .before .before .before .before .before .before .before .before .before .before .args .source .now) (c .before .before .before .before .before .before .before .before .before .before .before .before .before .args .m .tuple) ∷ []))
+    (old-steps (c .before .before .before .before .before .before .before .before .before .before .before .before .before .args .source .now) (c .before .before .before .before .before .before .before .before .before .before .before .before .before .args .m .old) (c .before .before .before .before .before .before .before .before .before .old-end .ensures) _ (bytePiece 0x4E ∷ tuplePiece (c .before .before .before .before .before .before .before .before .before .before .before .before .before .args .source .now) (c .before .before .before .before .before .before .before .before .before .before .before .before .before .args .m .tuple) ∷ []))
+
+open-requires : tie.Need-open-requires
+open-requires c κs = tt
 
 old-end-requires : tie.Need-old-end-requires
 old-end-requires c κs = tt
 
 judge-tuple-requires : tie.Need-judge-tuple-requires
 judge-tuple-requires c κs = tt
-
-open-requires : tie.Need-open-requires
-open-requires c κs = tt
 
 judge-xid-requires : tie.Need-judge-xid-requires
 judge-xid-requires c κs = tt
@@ -71,8 +71,8 @@ enum-known-next-2 c = search needs
 store-update-requires : tie.Need-store-update-requires
 store-update-requires c κs =
     let s = c .before .before .before .before .before .before .before .before .before .before .before .before .before .before .before .before .before in (
-      c .before .before .before .before .before .before .before .before .before .before .before .before .before .before .old-end .ensures,
-      c .before .before .before .before .before .before .before .before .before .before .before .before .before .judge-tuple .ensures,
+      c .before .before .before .before .before .before .before .before .before .before .before .before .before .old-end .ensures,
+      c .before .before .before .before .before .before .before .before .before .before .before .before .judge-tuple .ensures,
       has-room (s .args .version) (s .args .in-block) (a.Update (s .args .m)) (s .args .source .now) (s .args .out .now)
           (judged (c .before .before .before .before)) (c .before .before .before .before .fit .ensures) (c .before .before .next2 .given .1),
     )
@@ -98,9 +98,9 @@ pub write-update-spec : {M : Type 1} → statement M
 write-update-spec =
     tie.close
     (tie.spec
+    open-requires
     old-end-requires
     judge-tuple-requires
-    open-requires
     judge-xid-requires
     advance-requires
     judge-id-requires

@@ -1,7 +1,5 @@
 use mathlib.Core.Path.{_≡_}
 use borrow.Author.Needs.{needs}
-use mir.Val.{Fits}
-use mir.Syntax.{w64}
 use Rattle.message.specs.Kinds.{numbered}
 use Rattle.message.specs.Pieces.{messageEnd}
 use Rattle.message.specs.declared.Message.the-variants as a
@@ -21,7 +19,7 @@ judged c =
       c .before .before .before .before .before .before .before .before .before .advance3 .ensures,
       c .before .before .before .before .before .before .before .before .before .before .before .advance2 .ensures,
       c .before .before .before .before .before .before .before .before .before .before .before .before .before .advance .ensures,
-      c .before .before .before .judge-number .ensures,
+      c .before .before .before .judge-columns .ensures,
       c .before .before .before .before .before .judge-letter .ensures,
       c .before .before .before .before .before .before .before .before .judge-text2 .ensures,
       c .before .before .before .before .before .before .before .before .before .before .judge-text .ensures,
@@ -30,9 +28,6 @@ judged c =
       c .before .before .before .before .before .before .before .before .before .before .before .before .before .before .before .before .relation-columns .ensures,
       c .before .before .before .before .before .before .before .before .before .before .before .before .before .before .before .open .ensures,
     )
-
-count-fits : (c : tie.Start) → Fits w64 (c .args .m .count)
-count-fits c = search needs
 
 relation-columns-requires : tie.Need-relation-columns-requires
 relation-columns-requires c κs = tt
@@ -73,15 +68,8 @@ judge-letter-requires c κs = tt
 advance-requires-5 : tie.Need-advance-requires-5
 advance-requires-5 c κs = tt
 
-cast-judge-number : tie.Need-cast-judge-number
-cast-judge-number c = search needs
-
-cast-judge-number-2 : tie.Need-cast-judge-number-2
-cast-judge-number-2 c =
-    count-fits (c .before .before .before .before .before .before .before .before .before .before .before .before .before .before .before .before .before)
-
-judge-number-requires : tie.Need-judge-number-requires
-judge-number-requires c κs = tt
+judge-columns-requires : tie.Need-judge-columns-requires
+judge-columns-requires c κs = tt
 
 advance-requires-6 : tie.Need-advance-requires-6
 advance-requires-6 c κs = tt
@@ -143,9 +131,7 @@ write-relation-spec =
     slice-aggregate-judge-letter
     judge-letter-requires
     advance-requires-5
-    cast-judge-number
-    cast-judge-number-2
-    judge-number-requires
+    judge-columns-requires
     advance-requires-6
     advance-requires-7
     fit-requires

@@ -28,7 +28,7 @@ judged c src =
       c .before .before .before .bits64 .ensures,
       c .before .before .before .before .before .judge-long2 .ensures,
       c .before .before .before .before .before .before .before .judge-long .ensures,
-      c .before .before .before .before .before .before .before .before .before .judge-number .ensures,
+      c .before .before .before .before .before .before .before .before .before .judge-byte .ensures,
       toZ-ofZ w64 (c .before .before .before .before .before .before .before .before .before .before .before .before .before .args .m .time) (fits (c .before .before .before .before .before .before .before .before .before .before .before .before .before)),
       c .before .before .before .before .before .before .before .before .before .before .open .ensures,
     )
@@ -36,11 +36,8 @@ judged c src =
 open-requires : tie.Need-open-requires
 open-requires c κs = tt
 
-cast-judge-number : tie.Need-cast-judge-number
-cast-judge-number c = search needs
-
-judge-number-requires : tie.Need-judge-number-requires
-judge-number-requires c κs = tt
+judge-byte-requires : tie.Need-judge-byte-requires
+judge-byte-requires c κs = tt
 
 advance-requires : tie.Need-advance-requires
 advance-requires c κs = tt
@@ -106,8 +103,7 @@ write-commit-spec =
     tie.close
     (tie.spec
     open-requires
-    cast-judge-number
-    judge-number-requires
+    judge-byte-requires
     advance-requires
     judge-long-requires
     advance-requires-2

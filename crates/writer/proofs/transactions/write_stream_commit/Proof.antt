@@ -29,7 +29,7 @@ judged c src =
       c .before .before .before .bits64 .ensures,
       c .before .before .before .before .before .judge-long2 .ensures,
       c .before .before .before .before .before .before .before .judge-long .ensures,
-      c .before .before .before .before .before .before .before .before .before .judge-number .ensures,
+      c .before .before .before .before .before .before .before .before .before .judge-byte .ensures,
       c .before .before .before .before .before .before .before .before .before .before .before .judge-id .ensures,
       toZ-ofZ w64 (c .before .before .before .before .before .before .before .before .before .before .before .before .before .before .before .args .m .time) (fits (c .before .before .before .before .before .before .before .before .before .before .before .before .before .before .before)),
       c .before .before .before .before .before .before .before .before .before .before .before .before .open .ensures,
@@ -44,11 +44,8 @@ judge-id-requires c κs = tt
 advance-requires : tie.Need-advance-requires
 advance-requires c κs = tt
 
-cast-judge-number : tie.Need-cast-judge-number
-cast-judge-number c = search needs
-
-judge-number-requires : tie.Need-judge-number-requires
-judge-number-requires c κs = tt
+judge-byte-requires : tie.Need-judge-byte-requires
+judge-byte-requires c κs = tt
 
 advance-requires-2 : tie.Need-advance-requires-2
 advance-requires-2 c κs = tt
@@ -116,8 +113,7 @@ write-stream-commit-spec =
     open-requires
     judge-id-requires
     advance-requires
-    cast-judge-number
-    judge-number-requires
+    judge-byte-requires
     advance-requires-2
     judge-long-requires
     advance-requires-3

@@ -16,7 +16,7 @@ judged c src =
     rw (
       c .before .advance2 .ensures,
       c .before .before .before .advance .ensures,
-      c .before .before .judge-number .ensures,
+      c .before .before .judge-byte .ensures,
       c .before .before .before .before .judge-id .ensures,
       c .before .before .before .before .before .open .ensures,
     )
@@ -30,8 +30,8 @@ judge-id-requires c κs = tt
 advance-requires : tie.Need-advance-requires
 advance-requires c κs = tt
 
-judge-number-requires : tie.Need-judge-number-requires
-judge-number-requires c κs = tt
+judge-byte-requires : tie.Need-judge-byte-requires
+judge-byte-requires c κs = tt
 
 advance-requires-2 : tie.Need-advance-requires-2
 advance-requires-2 c κs = tt
@@ -78,7 +78,7 @@ write-stream-start-spec =
     open-requires
     judge-id-requires
     advance-requires
-    judge-number-requires
+    judge-byte-requires
     advance-requires-2
     fit-requires
     enum-known-next
