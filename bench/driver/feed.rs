@@ -66,6 +66,8 @@ pub struct Feeds<'a> {
     pub open_imports: Feed<'a>,
     /// Two imports of which one commits, shorter and longer ones.
     pub releases: Vec<Feed<'a>>,
+    /// Logical messages with shorter and longer prefixes, and Relations.
+    pub texts: Vec<Feed<'a>>,
     /// A recorded feed of binary values.
     pub binary: Feed<'a>,
     /// The same with bytes changed, and read by the types of other columns.

@@ -22,6 +22,7 @@ mod rust;
 mod spread;
 mod stream;
 mod tasks;
+mod texts;
 mod values;
 
 use feed::{Feed, Feeds};
@@ -51,7 +52,7 @@ fn check_and_tell<'a>(contenders: &mut Contenders<'a>, feeds: &Feeds<'a>) {
     for feed in &feeds.ends {
         accepted(feed);
     }
-    for feed in [&feeds.imports, &feeds.open_imports, &feeds.binary].into_iter().chain(&feeds.releases) {
+    for feed in [&feeds.imports, &feeds.open_imports, &feeds.binary].into_iter().chain(&feeds.releases).chain(&feeds.texts) {
         assert_eq!(accepted(feed), feed.messages.len(), "{}: all is accepted", feed.name);
     }
     println!("all agree on every message, and on two damaged copies of each");
@@ -101,6 +102,7 @@ fn main() {
     let imports = imports::imports(&parts);
     let open_imports = imports::open_imports(&parts, 2_000);
     let releases = RELEASED.map(|changes| imports::committed_import(&parts, changes));
+    let texts = texts::texts();
     let binary = values::recorded();
     let changed = values::changed(&binary);
     let name = std::path::Path::new(path).file_name().unwrap().display().to_string();
@@ -111,6 +113,7 @@ fn main() {
         imports: Feed::of(&imports),
         open_imports: Feed::of(&open_imports),
         releases: releases.iter().map(Feed::of).collect(),
+        texts: texts.iter().map(Feed::of).collect(),
         mistaken: vec![values::with_types_of(&changed, &binary), values::by_other_types(&binary)],
         binary,
     };

@@ -9,18 +9,20 @@ pub type Contenders<'a> = Vec<Box<dyn Contender<'a> + 'a>>;
 /// The times of one task: of each contender, one for each round.
 type Times = Vec<Vec<Duration>>;
 
-/// Runs every task, in turns: its times, and last those of copying.
+/// Runs every task, in turns: its times, and last those of copying. The first to run in a round fetches the feed into the cache, so another
+/// one is first in each.
 pub fn take_turns<'a>(contenders: &mut Contenders<'a>, feeds: &Feeds<'a>, rounds: usize) -> Vec<Times> {
     let tasks = tasks(feeds);
     let mut times = vec![vec![vec![]; contenders.len()]; tasks.len()];
     let mut copies = vec![];
-    for _ in 0..rounds {
+    for round in 0..rounds {
         for (task, times) in tasks.iter().zip(&mut times) {
             let mut first = None;
-            for (contender, times) in contenders.iter_mut().zip(times) {
-                let (time, totals) = (task.run)(&mut **contender, task.feed);
-                times.push(time);
-                assert_eq!(*first.get_or_insert(totals), totals, "{}: {}", task.title, contender.name());
+            for turn in 0..contenders.len() {
+                let i = (round + turn) % contenders.len();
+                let (time, totals) = (task.run)(&mut *contenders[i], task.feed);
+                times[i].push(time);
+                assert_eq!(*first.get_or_insert(totals), totals, "{}: {}", task.title, contenders[i].name());
             }
         }
         copies.push(copying(&feeds.recorded));

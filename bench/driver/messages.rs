@@ -40,3 +40,8 @@ pub fn stream_commit(xid: &[u8]) -> Vec<u8> {
 pub fn stream_abort(xid: &[u8], sub_xid: &[u8]) -> Vec<u8> {
     [b"A", xid, sub_xid].concat()
 }
+
+/// Outside a transaction and a block.
+pub fn logical(lsn: u64, prefix: &[u8], content: &[u8]) -> Vec<u8> {
+    [b"M\0", &lsn.to_be_bytes()[..], prefix, b"\0", &(content.len() as u32).to_be_bytes(), content].concat()
+}

@@ -28,6 +28,10 @@ impl<'f, 'a> Task<'f, 'a> {
         Task::whole(&format!("reading and session, {}", feed.name), feed, session)
     }
 
+    fn texts(feed: &'f Feed<'a>) -> Self {
+        Task::whole(&format!("reading, {}", feed.name), feed, reading)
+    }
+
     fn end(feed: &'f Feed<'a>) -> Self {
         let messages = POOLS * COPIES;
         let bytes = messages * feed.messages[end_of(&feed.messages)].len();
@@ -52,6 +56,7 @@ impl<'f, 'a> Task<'f, 'a> {
 
 pub fn tasks<'f, 'a>(feeds: &'f Feeds<'a>) -> Vec<Task<'f, 'a>> {
     let mut tasks = vec![Task::whole("reading", &feeds.recorded, reading), Task::whole("reading and session", &feeds.recorded, session)];
+    tasks.extend(feeds.texts.iter().map(Task::texts));
     tasks.extend(feeds.spread.iter().map(Task::tables));
     tasks.extend(feeds.ends.iter().map(Task::end));
     tasks.extend(Task::held(&feeds.open_imports));
