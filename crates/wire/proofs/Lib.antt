@@ -6,3 +6,4 @@ pub mod Values
 pub mod There
 pub mod Bits
 pub mod Tests
+pub mod Eights

@@ -1,11 +1,12 @@
 ghost use mathlib.Core.Path.{_≡_};
-ghost use Prim.Native.Nat.{_+_, _≤_};
-ghost use lib.ListN.{drop};
+ghost use Prim.Native.Nat.{_≤_};
 ghost use mir.Val.{toZ, ofZ};
 ghost use mir.Syntax.{w16, w32, w64};
 ghost use Rattle.wire.specs.Numbers.{wordAt};
-ghost use Rattle.wire.specs.Fields.{member, numberField, letterField, untilZero, textField, bytesField, valueField, narrow8, narrow16, narrow32, positionOf};
+ghost use Rattle.wire.specs.Fields.{member, numberField, letterField, textField, bytesField, valueField, narrow8, narrow16, narrow32, positionOf};
 ghost use Rattle.wire.specs.ValueEnd.{valueEnd};
+
+mod zeros;
 
 // Why and where a message was refused: the number of the refusal table, and an offset.
 pub struct Refusal {
@@ -324,20 +325,6 @@ pub fn letter(s: &[u8], c: Cursor, set: &[u8]) -> Field8
     }
 }
 
-// The index of the first zero byte from `at` on, or the length.
-fn zero_from(s: &[u8], at: usize) -> usize
-    ensures { λ r. ⌜ r ≡ at + untilZero (drop at (now (s .entry))) ⌝ }
-{
-    let mut i = at;
-    while i < s.len() {
-        if s[i] == 0 {
-            return i;
-        }
-        i += 1;
-    }
-    i
-}
-
 // A text and its zero byte. The span leaves the zero byte out.
 pub fn text(s: &[u8], c: Cursor) -> FieldSpan
     ensures { λ r. ⌜ r ≡ textField (now (s .entry)) c ⌝ }
@@ -354,7 +341,7 @@ pub fn text(s: &[u8], c: Cursor) -> FieldSpan
             next: c,
         },
         Cursor::At(at) => {
-            let end = zero_from(s, at);
+            let end = zeros::zero_from(s, at);
             if end < s.len() {
                 let length = end - at;
                 let next = end + 1;

@@ -1,12 +1,12 @@
 use denote.Ref.{now}
 use Prim.Native.Nat.{_+_, _-_}
 use native.Mathlib.Omega.{arith}
-use mathlib.Core.Path.{_≡_, refl}
+use mathlib.Core.Path.{_≡_, sym}
 use lib.ListN.{length, drop}
 use Rattle.wire.specs.Fields.{untilZero}
 use Rattle.wire.proofs.Fields.{until-here, until-next, until-end}
-use Rattle.wire.proofs.zero_from.Statement.{statement}
-use Rattle.wire.proofs.zero_from.Tie as tie
+use Rattle.wire.proofs.zeros.zero_from.Statement.{statement}
+use Rattle.wire.proofs.zeros.zero_from.Tie as tie
 
 abbrev Inv-loop : tie.InvT-loop
 Inv-loop s at i₀ i = at + untilZero (drop at s) ≡ i + untilZero (drop i s)
@@ -14,8 +14,11 @@ Inv-loop s at i₀ i = at + untilZero (drop at s) ≡ i + untilZero (drop i s)
 abbrev μ-loop : tie.MeasureT-loop
 μ-loop s at i₀ i = length s - i
 
+skip-eights-requires : tie.Need-skip-eights-requires Inv-loop μ-loop
+skip-eights-requires c κs = tt
+
 loop-holds : tie.Need-loop-holds Inv-loop μ-loop
-loop-holds c = refl
+loop-holds c = sym (c .skip-eights .ensures)
 
 shared-slice-read-if1 : tie.Need-shared-slice-read-if1 Inv-loop μ-loop
 shared-slice-read-if1 c = omega arith
@@ -23,7 +26,7 @@ shared-slice-read-if1 c = omega arith
 returns : tie.Need-returns Inv-loop μ-loop
 returns c =
     let l = c .before .before .before in
-    omega (arith, until-here (now (l .before .args .s)) (l .loop .i) (omega arith) (c .if1 .taken))
+    omega (arith, until-here (now (l .before .before .before .args .s)) (l .loop .i) (omega arith) (c .if1 .taken))
 
 add-i : tie.Need-add-i Inv-loop μ-loop
 add-i c = omega arith
@@ -34,10 +37,10 @@ loop-less c = omega arith
 loop-again : tie.Need-loop-again Inv-loop μ-loop
 loop-again c =
     let l = c .before .before .before in
-    omega (arith, until-next (now (l .before .args .s)) (l .loop .i) (omega arith) (c .if1 .left))
+    omega (arith, until-next (now (l .before .before .before .args .s)) (l .loop .i) (omega arith) (c .if1 .left))
 
 returns-2 : tie.Need-returns-2 Inv-loop μ-loop
-returns-2 c = omega (arith, until-end (now (c .before .before .args .s)) (c .before .loop .i) (omega arith))
+returns-2 c = omega (arith, until-end (now (c .before .before .before .before .args .s)) (c .before .loop .i) (omega arith))
 
 pub zero-from-spec : {M : Type 1} → statement M
 zero-from-spec =
@@ -45,6 +48,7 @@ zero-from-spec =
     (tie.spec
     Inv-loop
     μ-loop
+    skip-eights-requires
     loop-holds
     shared-slice-read-if1
     returns
