@@ -2,7 +2,7 @@
 use crate::feed::Made;
 use crate::messages::{begin, commit, logical, relation};
 
-/// How many bytes each has, or a little less.
+/// About how many bytes each has.
 const BYTES: usize = 200_000;
 
 /// How many bytes the prefixes of logical messages have.
