@@ -1,3 +1,4 @@
+#![tactic(auto)]
 mod flat;
 pub mod reading;
 mod rows;

@@ -1,3 +1,4 @@
+#![tactic(auto)]
 // A session in the caller's record, with a keeper in the caller's buffer, exported to C. It stands apart from `capi`, for an archive of its
 // own: a session's step is fast where its stages have one caller and are compiled as one function.
 ghost use Rattle.std.specs.Prelude.{◌≡◌};

@@ -1,3 +1,4 @@
+#![tactic(auto)]
 // Binary values exported to C, in an archive of its own as the keeper's is: what they share with reading and writing keeps its one caller there.
 ghost use Rattle.std.specs.Prelude.{◌≡◌};
 ghost use Rattle.writer.specs.Answer.{Settles, refusal};

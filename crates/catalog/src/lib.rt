@@ -1,3 +1,4 @@
+#![tactic(auto)]
 // The tables of a session, over arrays that the caller lends: the announcements, and the open streamed transactions.
 pub mod announcements;
 mod rows;

@@ -1,3 +1,4 @@
+#![tactic(auto)]
 // Stepping through a tuple, a Relation's columns and a Truncate's OIDs: the words that it answers in, and a part of the message.
 ghost use Rattle.columns.specs.Parts.{VeryPart};
 

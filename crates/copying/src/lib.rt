@@ -1,3 +1,4 @@
+#![tactic(auto)]
 // Bytes copied in lent buffers: a number's digits or a part of another slice at the front of a buffer, and bytes of a buffer to a place
 // before them. Where there is no room, nothing is copied.
 ghost use Rattle.std.specs.Prelude.{◌≡◌, ◌+◌, ◌*◌, ◌≤◌, length};

@@ -1,3 +1,4 @@
+#![tactic(auto)]
 // Tells a trace on standard input line by line: each message's index, kind, numbers, names and columns, and what a fresh session
 // answers to it; and a summary. A binary value is told as a number where its type is known and listed. A trace is records of the mark
 // C3 4D, a length of 32 bits and a message. The version is the first argument, 2 where there is none. A message that is longer than

@@ -1,3 +1,4 @@
+#![tactic(auto)]
 // Gives the cases of its standard input to the reader and to the second reader, and says for each group how many ran and
 // on how many both gave the same answer and the one that stands there. Cases that are marked for it are then varied: at
 // every version and place, cut short, made longer, and with one byte changed. What a message has is stepped through to its

@@ -1,3 +1,4 @@
+#![tactic(auto)]
 // Gives feeds recorded from a PostgreSQL server, named by its arguments, each to a fresh session of the version in its name, and to one
 // with a keeper besides. Prints each refusal, what each Stream Commit released, how many bytes are still held in the end, and how many
 // messages were accepted; and of a feed with binary columns what their values sum to. A feed is records of the mark C3 4D, a length of 32

@@ -1,3 +1,4 @@
+#![tactic(auto)]
 // Streamed changes are held in a lent buffer until they commit: the step of a session with a keeper.
 ghost use Rattle.std.specs.Prelude.{◌≡◌, List, ℕ, ◌%◌};
 ghost use Rattle.session.specs.Events.{Change};

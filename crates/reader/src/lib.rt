@@ -1,3 +1,4 @@
+#![tactic(auto)]
 // Any bytes to a typed message, or one refusal.
 ghost use Rattle.std.specs.Prelude.{◌≡◌};
 ghost use Rattle.message.specs.Kinds.{kind_numbered};

@@ -1,3 +1,4 @@
+#![tactic(auto)]
 // Reads the messages of logical replication a second way, to compare the reader with. A table has the layout of each
 // kind as a row of field codes, which a loop goes through:
 //

@@ -1,3 +1,4 @@
+#![tactic(auto)]
 ghost use Rattle.std.specs.Prelude.{◌≡◌, [], get_or, ℕ};
 ghost use Rattle.session.specs.Events.{Change};
 ghost use Rattle.session.specs.Rules.{answers, named, unnamed};

@@ -1,3 +1,4 @@
+#![tactic(auto)]
 // Binary values of the types whose values are numbers, read by a type OID and written back: the words that reading answers in.
 use columns::Position;
 

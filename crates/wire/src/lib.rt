@@ -1,3 +1,5 @@
+#![tactic(auto)]
+
 ghost use Rattle.std.specs.Prelude.{◌≡◌, ◌≤◌};
 ghost use Rattle.std.proofs.Common.{to_z, of_z};
 ghost use Rattle.std.specs.Int.{w16, w32, w64};

@@ -1,3 +1,4 @@
+#![tactic(auto)]
 // A typed message, with its parts in a source, into an output. The version and the kind are judged, the fields from left to right, then
 // the room, and then the message is stored.
 ghost use Rattle.message.specs.Write.{write_message};
