@@ -1,4 +1,5 @@
 #![tactic(auto)]
+
 ghost use Rattle.std.specs.Prelude.{◌≡◌};
 ghost use Rattle.message.specs.Kinds.{kind_of, kind_number, kind_numbered};
 ghost use Rattle.message.specs.Versions.{version_allows, version_has};
