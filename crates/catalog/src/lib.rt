@@ -11,7 +11,7 @@ ghost use Rattle.catalog.specs.Table.{Sized};
 pub const ROWS: usize = 256;
 
 // An announcement that a change sees.
-#[derive(Drop)]
+#[derive(Clone, Copy)]
 pub enum Lookup {
     Missing,
     Found {

@@ -13,35 +13,35 @@ pub use starts::{oid_start, relation_start, tuple_start};
 pub use steps::{oid_step, relation_step, tuple_step};
 
 // Where stepping stands: an offset in the message, and how many are left.
-#[derive(Drop)]
+#[derive(Clone, Copy)]
 pub struct Position {
     pub offset: usize,
     pub left: usize,
 }
 
 // What starting gives.
-#[derive(Drop)]
+#[derive(Clone, Copy)]
 pub enum Started {
     At(Position),
     Refused(Refusal),
 }
 
 // The tuples that a message may have. A Delete's tuple is its old one.
-#[derive(Drop)]
+#[derive(Clone, Copy)]
 pub enum Which {
     Old,
     New,
 }
 
 // An offset, where there is one.
-#[derive(Drop)]
+#[derive(Clone, Copy)]
 pub enum Found {
     At(usize),
     Nothing,
 }
 
 // What of a message can be stepped through: where its tuples start, and its columns' and OIDs' positions.
-#[derive(Drop)]
+#[derive(Clone, Copy)]
 pub struct Sections {
     pub old: Found,
     pub new: Found,
@@ -50,7 +50,7 @@ pub struct Sections {
 }
 
 // A column of a tuple: its letter, and the start and length of its value, 0 and 0 where it has none.
-#[derive(Drop)]
+#[derive(Clone, Copy)]
 pub enum Column {
     Value {
         letter: u8,
@@ -76,14 +76,14 @@ impl Column {
 }
 
 // A column, and where stepping stands after it.
-#[derive(Drop)]
+#[derive(Clone, Copy)]
 pub struct TupleStep {
     pub column: Column,
     pub next: Position,
 }
 
 // The same with its position taken apart, for the reader below.
-#[derive(Drop)]
+#[derive(Clone, Copy)]
 struct Moved {
     column: Column,
     offset: usize,
@@ -91,7 +91,7 @@ struct Moved {
 }
 
 // A column of a Relation. The key flag is 1 where the column is part of the key.
-#[derive(Drop)]
+#[derive(Clone, Copy)]
 pub enum RelationColumn {
     Column {
         key: u8,
@@ -106,28 +106,28 @@ pub enum RelationColumn {
     },
 }
 
-#[derive(Drop)]
+#[derive(Clone, Copy)]
 pub struct RelationStep {
     pub column: RelationColumn,
     pub next: Position,
 }
 
 // A relation of a Truncate.
-#[derive(Drop)]
+#[derive(Clone, Copy)]
 pub enum TruncatedRelation {
     Oid(u32),
     Over,
     Refused { number: u8, offset: usize },
 }
 
-#[derive(Drop)]
+#[derive(Clone, Copy)]
 pub struct OidStep {
     pub relation: TruncatedRelation,
     pub next: Position,
 }
 
 // A column's letter and value, and where reading stands after it.
-#[derive(Drop)]
+#[derive(Clone, Copy)]
 pub struct ColumnField {
     pub letter: u8,
     pub value: Span,
@@ -135,7 +135,7 @@ pub struct ColumnField {
 }
 
 // A Relation's column, with the bits of its type modifier, and where reading stands after it.
-#[derive(Drop)]
+#[derive(Clone, Copy)]
 pub struct RelationField {
     pub key: u8,
     pub name: Span,

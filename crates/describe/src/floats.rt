@@ -16,7 +16,7 @@ const POWERS: usize = 400;
 
 // A float taken apart: the bits of its fraction and of its exponent, what the leading bit that is not stored counts, the exponent of
 // the infinity, the one at which the last bit of a fraction counts 1, and the power of ten from which on the text has an exponent.
-#[derive(Drop)]
+#[derive(Clone, Copy)]
 struct Float {
     is_negative: bool,
     fraction: u64,
@@ -28,7 +28,7 @@ struct Float {
 }
 
 // Decimal digits, as text, and what the first one counts: a power of ten, plus 400.
-#[derive(Drop)]
+#[derive(Clone, Copy)]
 struct Digits {
     digits: [u8; MOST_DIGITS],
     count: usize,

@@ -157,7 +157,7 @@ fn tell_all(version: u32, room: &mut [u8], line: &mut [u8]) {
 }
 
 // A decimal number of 32 bits.
-#[derive(Drop)]
+#[derive(Clone, Copy)]
 enum Decimal {
     Number(u32),
     Wrong,

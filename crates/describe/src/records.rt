@@ -17,7 +17,7 @@ pub struct Window {
 }
 
 // What stands at the start of bytes: a record's message has so many bytes, or there is no record.
-#[derive(Drop)]
+#[derive(Clone, Copy)]
 enum Head {
     Size(u32),
     Over,
@@ -26,7 +26,7 @@ enum Head {
 }
 
 // A record: where in the buffer its message lies, or that it is too long for the buffer.
-#[derive(Drop)]
+#[derive(Clone, Copy)]
 pub enum Record {
     Message(Span),
     Long { letter: u8, size: usize },
@@ -36,14 +36,14 @@ pub enum Record {
 }
 
 // A record, and the unread bytes after it.
-#[derive(Drop)]
+#[derive(Clone, Copy)]
 pub struct Taken {
     pub record: Record,
     pub window: Window,
 }
 
 // The unread bytes after so many were passed over, or that there were too few.
-#[derive(Drop)]
+#[derive(Clone, Copy)]
 struct Passed {
     is_whole: bool,
     window: Window,

@@ -16,7 +16,7 @@ const YEAR_2000: u64 = 730_425 * 86_400_000_000;
 
 const YEAR_10000: u64 = 3_652_365 * 86_400_000_000;
 
-#[derive(Drop)]
+#[derive(Clone, Copy)]
 struct Date {
     year: u64,
     month: u64,

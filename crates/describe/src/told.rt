@@ -42,7 +42,7 @@ const OIDS: u8 = 2;
 const SHOWN: usize = 32;
 
 // Where the line goes on, and the list.
-#[derive(Drop)]
+#[derive(Clone, Copy)]
 struct Item {
     at: usize,
     next: Position,

@@ -10,7 +10,7 @@ pub const SAME: u8 = 1;
 
 const MORE: u8 = 2;
 
-#[derive(Drop)]
+#[derive(Clone, Copy)]
 pub enum Factor {
     Two,
     Ten,

@@ -10,7 +10,7 @@ use message::{
 use second_reader::Seen;
 use wire::Span;
 
-#[derive(Drop)]
+#[derive(Clone, Copy)]
 struct List {
     count: usize,
     values: [u64; 16],

@@ -20,7 +20,7 @@ const UNRELEASED: u8 = 0xAA;
 
 // A session with a keeper: its buffer now, and as it was before the last message; how many of its bytes are lent, and how many are held.
 // Then the last output, and how many bytes were released to it.
-#[derive(Drop)]
+#[derive(Clone, Copy)]
 struct Running {
     session: Session,
     given: u64,

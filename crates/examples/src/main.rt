@@ -55,7 +55,7 @@ const VERSIONS: [u32; 5] = [0, 1, 2, 3, 0xFFFF_FFFF];
 // The cases have fewer bytes than this.
 const ROOM: usize = 131_072;
 
-#[derive(Drop)]
+#[derive(Clone, Copy)]
 struct Tally {
     cases: u64,
     agreed: u64,

@@ -9,7 +9,7 @@ use second_reader::Seen;
 use session::{Answer, Session, Stepped};
 
 // A session, how many messages it was given, and on how many its answer was the one that stands there.
-#[derive(Drop)]
+#[derive(Clone, Copy)]
 struct Running {
     session: Session,
     given: u64,
@@ -80,7 +80,7 @@ fn give(run: Running, bytes: &[u8], line: &[u8], answer: usize) -> Running {
 }
 
 // How often a message is given, and the offset of the byte that counts.
-#[derive(Drop)]
+#[derive(Clone, Copy)]
 struct Repetition {
     count: u64,
     at: usize,

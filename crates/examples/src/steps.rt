@@ -26,7 +26,7 @@ const WRONG: u8 = 101;
 const LAST: usize = 0xFFFF_FFFF_FFFF_FFFF;
 
 // A start: a refusal's number and offset, or 0, the first offset and how many there are.
-#[derive(Drop)]
+#[derive(Clone, Copy)]
 struct Start {
     number: u8,
     offset: usize,
@@ -35,7 +35,7 @@ struct Start {
 
 // What a step gave: 0 and where the next stands, or a refusal's number and offset; what was found, as the second reader
 // counts it; and the position after it.
-#[derive(Drop)]
+#[derive(Clone, Copy)]
 struct Taken {
     number: u8,
     at: usize,

@@ -8,7 +8,7 @@ use wire::Refusal;
 
 // A type: its OID, its letter as in `typed`, how many bytes its values have, and how many patterns are tried of the bits in front and of
 // those behind.
-#[derive(Drop)]
+#[derive(Clone, Copy)]
 struct Sweep {
     type_oid: u32,
     letter: u8,
@@ -19,7 +19,7 @@ struct Sweep {
 
 // A format of floats: the largest exponent, the digit in front that a number has unless its exponent is 0, and by which power of 2 the
 // last digit of those is smaller than 1.
-#[derive(Drop)]
+#[derive(Clone, Copy)]
 struct Format {
     most: u64,
     front: u64,

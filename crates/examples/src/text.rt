@@ -11,7 +11,7 @@ ghost use Rattle.std.specs.Prelude.{◌≡◌, ◌<◌, ◌≤◌, length, take,
 ghost use Rattle.examples.specs.Places.{Onward, Beyond, Pieced};
 
 // A decimal number, if there is one, and where the text goes on.
-#[derive(Drop)]
+#[derive(Clone, Copy)]
 pub struct Decimal {
     pub good: bool,
     pub value: u64,
@@ -19,7 +19,7 @@ pub struct Decimal {
 }
 
 // Bytes from hex digits, and where the text goes on.
-#[derive(Drop)]
+#[derive(Clone, Copy)]
 pub struct Hex {
     pub good: bool,
     pub size: usize,
@@ -27,7 +27,7 @@ pub struct Hex {
 }
 
 // A case, whose bytes are the first `size` of the message, and where in the line its answer stands.
-#[derive(Drop)]
+#[derive(Clone, Copy)]
 pub struct Case {
     pub good: bool,
     pub version: u32,

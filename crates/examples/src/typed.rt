@@ -16,7 +16,7 @@ use columns::Position;
 use values::{TypedColumn, TypedStep, Value, ValueKind};
 
 // A case, whose bytes are the first `size` of the message, and where in the line its answer stands.
-#[derive(Drop)]
+#[derive(Clone, Copy)]
 struct Case {
     good: bool,
     type_oid: u32,

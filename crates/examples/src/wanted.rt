@@ -3,7 +3,7 @@ use crate::text;
 use values::Value;
 
 // A letter that says which value, and a signed number or two: see `typed`.
-#[derive(Drop)]
+#[derive(Clone, Copy)]
 pub struct Want {
     pub letter: u8,
     pub negative: bool,
@@ -12,7 +12,7 @@ pub struct Want {
     pub second: u64,
 }
 
-#[derive(Drop)]
+#[derive(Clone, Copy)]
 struct Signed {
     negative: bool,
     value: u64,

@@ -16,7 +16,7 @@ const NOTED: usize = 2 * MESSAGES;
 const ROOM: usize = 64;
 
 // A session, whether the next message is in a block, and the sums so far.
-#[derive(Drop)]
+#[derive(Clone, Copy)]
 struct Reading {
     session: Session,
     in_block: bool,
@@ -24,7 +24,7 @@ struct Reading {
 }
 
 // The sums so far, and where the next column's type and the next column stand.
-#[derive(Drop)]
+#[derive(Clone, Copy)]
 struct Walk {
     sums: Sums,
     announced: Position,

@@ -16,7 +16,7 @@ const ORDER: usize = FIRSTS + BLOCKS + 1;
 
 pub const PLAN: usize = ORDER + BLOCKS;
 
-#[derive(Drop)]
+#[derive(Clone, Copy)]
 pub struct Listed {
     pub messages: usize,
     pub blocks: usize,

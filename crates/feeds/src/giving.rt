@@ -14,7 +14,7 @@ pub struct Counts {
 }
 
 // A session, one with a keeper that has room for all, how many bytes that holds, and how many messages were accepted.
-#[derive(Drop)]
+#[derive(Clone, Copy)]
 pub struct Both {
     pub alone: Session,
     pub keeping: Session,
@@ -23,7 +23,7 @@ pub struct Both {
 }
 
 // Both after a message, its answer from the session, and what it got from the one with a keeper.
-#[derive(Drop)]
+#[derive(Clone, Copy)]
 pub struct BothAfter {
     pub both: Both,
     pub answer: Answer,

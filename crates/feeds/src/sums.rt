@@ -3,7 +3,7 @@ use crate::{print, print_number};
 use values::{Bits, Value};
 
 // Floats of one format: how many there are, NaNs, infinities, subnormals, those below 0, and all patterns, exclusive-or.
-#[derive(Drop)]
+#[derive(Clone, Copy)]
 struct Floats {
     count: u64,
     nans: u64,
@@ -14,7 +14,7 @@ struct Floats {
 }
 
 // Whole numbers: how many there are, and their sum in 64 bits.
-#[derive(Drop)]
+#[derive(Clone, Copy)]
 struct Integers {
     count: u64,
     sum: u64,

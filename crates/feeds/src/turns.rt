@@ -12,7 +12,7 @@ const GIVEN: usize = 1_000_000;
 
 // How often blocks of different transactions changed places, and how many messages got something else then; how often blocks of one
 // transaction did, and how often that made a difference. The number is the last of the generator.
-#[derive(Drop)]
+#[derive(Clone, Copy)]
 struct Walk {
     number: u64,
     exchanges: u64,
@@ -23,7 +23,7 @@ struct Walk {
 
 // An exchange: whether the blocks are of one transaction, whether they stay, as they do where that isn't so and no message of theirs is
 // refused in either order, and how many messages got something else.
-#[derive(Drop)]
+#[derive(Clone, Copy)]
 struct Turned {
     is_one: bool,
     stays: bool,

@@ -13,7 +13,7 @@ mod holding;
 mod records;
 
 // What a message gets: its answer (the session's, or 13 or 14), and how many bytes it released.
-#[derive(Drop)]
+#[derive(Clone, Copy)]
 pub struct Reply {
     pub answer: Answer,
     pub released: usize,
@@ -28,7 +28,7 @@ pub struct KeeperStep {
 }
 
 // A piece of held bytes: its size, whether it is a record, and a record's two xids.
-#[derive(Drop)]
+#[derive(Clone, Copy)]
 struct Header {
     size: usize,
     whole: bool,
@@ -38,7 +38,7 @@ struct Header {
 
 // What a message does to what is kept: nothing; a change, under its own xid, is kept; a Stream Commit frees what a transaction kept; a
 // Stream Abort drops it, or what it kept under the xid `sub`.
-#[derive(Drop)]
+#[derive(Clone, Copy)]
 enum Deed {
     Nothing,
     Keeps(u64),

@@ -19,7 +19,7 @@ pub const MOST_COLUMNS: u16 = 1600;
 pub const MOST_RELATIONS: u32 = 256;
 
 // A protocol version: any number, known or not.
-#[derive(Drop)]
+#[derive(Clone, Copy)]
 pub struct Version {
     pub number: u32,
 }
@@ -63,14 +63,14 @@ impl Version {
 
 // Texts, contents and values are parts of the message's bytes. A tuple, a Relation's columns and a Truncate's OIDs lie
 // in their layout from an offset on. An `xid` that only stands inside a stream block is 0 elsewhere.
-#[derive(Drop)]
+#[derive(Clone, Copy)]
 pub struct Begin {
     pub final_lsn: u64,
     pub time: i64,
     pub xid: u32,
 }
 
-#[derive(Drop)]
+#[derive(Clone, Copy)]
 pub struct Commit {
     pub flags: u8,
     pub commit_lsn: u64,
@@ -78,13 +78,13 @@ pub struct Commit {
     pub time: i64,
 }
 
-#[derive(Drop)]
+#[derive(Clone, Copy)]
 pub struct Origin {
     pub lsn: u64,
     pub name: Span,
 }
 
-#[derive(Drop)]
+#[derive(Clone, Copy)]
 pub struct Relation {
     pub xid: u32,
     pub relation: u32,
@@ -106,7 +106,7 @@ impl Relation {
     pub const INDEX: u8 = b'i';
 }
 
-#[derive(Drop)]
+#[derive(Clone, Copy)]
 pub struct Type {
     pub xid: u32,
     pub oid: u32,
@@ -114,7 +114,7 @@ pub struct Type {
     pub name: Span,
 }
 
-#[derive(Drop)]
+#[derive(Clone, Copy)]
 pub struct Insert {
     pub xid: u32,
     pub relation: u32,
@@ -122,14 +122,14 @@ pub struct Insert {
 }
 
 // The old tuple of an Update, where it starts.
-#[derive(Drop)]
+#[derive(Clone, Copy)]
 pub enum OldTuple {
     Nothing,
     Key(usize),
     Full(usize),
 }
 
-#[derive(Drop)]
+#[derive(Clone, Copy)]
 pub struct Update {
     pub xid: u32,
     pub relation: u32,
@@ -138,7 +138,7 @@ pub struct Update {
 }
 
 // `image` says what the tuple holds: `K`, the key, or `O`, the whole old row.
-#[derive(Drop)]
+#[derive(Clone, Copy)]
 pub struct Delete {
     pub xid: u32,
     pub relation: u32,
@@ -146,7 +146,7 @@ pub struct Delete {
     pub tuple: usize,
 }
 
-#[derive(Drop)]
+#[derive(Clone, Copy)]
 pub struct Truncate {
     pub xid: u32,
     pub count: u32,
@@ -161,7 +161,7 @@ impl Truncate {
     pub const RESTART_IDENTITY: u8 = 2;
 }
 
-#[derive(Drop)]
+#[derive(Clone, Copy)]
 pub struct LogicalMessage {
     pub xid: u32,
     pub flags: u8,
@@ -170,7 +170,7 @@ pub struct LogicalMessage {
     pub content: Span,
 }
 
-#[derive(Drop)]
+#[derive(Clone, Copy)]
 pub struct StreamCommit {
     pub xid: u32,
     pub flags: u8,
@@ -181,7 +181,7 @@ pub struct StreamCommit {
 
 // Stream Start's and Stream Abort's fields are held directly: as structs of eight bytes they would make every message be copied through
 // memory.
-#[derive(Drop)]
+#[derive(Clone, Copy)]
 pub enum Message {
     Begin(Begin),
     Commit(Commit),
@@ -200,7 +200,7 @@ pub enum Message {
 }
 
 // What reading gives.
-#[derive(Drop)]
+#[derive(Clone, Copy)]
 pub enum Read {
     Message(Message),
     Refused(Refusal),

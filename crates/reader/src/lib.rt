@@ -22,7 +22,7 @@ pub use schema::relation_columns;
 pub use tuples::{tuple_end, tuple_end_offset};
 
 // An Update's old tuple, and where reading stands after it.
-#[derive(Drop)]
+#[derive(Clone, Copy)]
 pub struct OldField {
     pub value: OldTuple,
     pub next: Cursor,

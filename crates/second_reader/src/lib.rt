@@ -47,7 +47,7 @@ const ROOM: usize = 16;
 
 // A refusal's number and offset, or 0, where the next field starts, and what was found: a number, a letter, or how many
 // bytes or columns. Of several fields it is their sum.
-#[derive(Drop)]
+#[derive(Clone, Copy)]
 pub struct Step {
     pub number: u8,
     pub at: usize,
@@ -55,7 +55,7 @@ pub struct Step {
 }
 
 // A refusal's number and offset, or 0 and the end of the tuple, its columns and the bytes of its values.
-#[derive(Drop)]
+#[derive(Clone, Copy)]
 pub struct Tuple {
     pub number: u8,
     pub offset: usize,
@@ -67,7 +67,7 @@ pub struct Tuple {
 // message's numbers in the order of its layout. A text or content is its start and length, a tuple its start and count.
 // Columns of a Relation and OIDs are a start. `K` and `O` stand before their tuple, and an Update with no old tuple has
 // three zeros there. An xid that is not there is 0, and a time is its 64 bits.
-#[derive(Drop)]
+#[derive(Clone, Copy)]
 pub struct Seen {
     pub number: u8,
     pub offset: usize,

@@ -20,7 +20,7 @@ pub use asking::{place_of, read_in, version_of, visible_in};
 pub use rules::accepted;
 
 // Where a session stands: idle, between Begin and Commit (with the Begin's final LSN), or in a stream block (of an xid).
-#[derive(Drop)]
+#[derive(Clone, Copy)]
 pub enum Place {
     Idle,
     Transaction(u64),
@@ -29,7 +29,7 @@ pub enum Place {
 
 // What a message gets: a change its announcement's tag, identity and column count; a refused one the number of the
 // refusal table and an offset.
-#[derive(Drop)]
+#[derive(Clone, Copy)]
 pub enum Answer {
     Accepted,
     Change {
@@ -45,7 +45,7 @@ pub enum Answer {
 
 // A session without its arrays: where it stands, whether the transaction between Begin and Commit had a change, and how many rows of
 // the announcements are in use. Each content means something.
-#[derive(Drop)]
+#[derive(Clone, Copy)]
 struct Head {
     final_lsn: u64,
     version: u32,
@@ -87,7 +87,7 @@ pub struct Stepped {
 // What the session looks at in a message is in whole words: smaller numbers would be packed and unpacked with those of other kinds.
 
 // The tuples of an Insert, Update or Delete, each with its letter and column count. An old one with the letter 0 is none.
-#[derive(Drop)]
+#[derive(Clone, Copy)]
 pub struct Tuples {
     pub old: u64,
     pub old_count: u64,
@@ -105,14 +105,14 @@ impl Tuples {
 }
 
 // What a Relation announces of its columns.
-#[derive(Drop)]
+#[derive(Clone, Copy)]
 pub struct Shape {
     pub identity: u64,
     pub columns: u64,
 }
 
 // A message of another kind. A Message is transactional (flag 1) or a marker (flag 0).
-#[derive(Drop)]
+#[derive(Clone, Copy)]
 pub enum Act {
     Begin { lsn: u64, xid: u32 },
     Commit { lsn: u64 },
@@ -130,7 +130,7 @@ pub enum Act {
 
 // What is heard of bytes: reading's refusal, an Insert, Update or Delete, or a message of another kind. Most messages are changes, and a
 // path of their own is shorter.
-#[derive(Drop)]
+#[derive(Clone, Copy)]
 pub enum Looked {
     Unread { number: u64, offset: usize },
     Change { oid: u32, xid: u64, tuples: Tuples },

@@ -13,7 +13,7 @@ pub use reading::typed_step;
 pub use writing::{bits_of, kind_of, write_bits, write_value};
 
 // How the values of a type are read: as a number, or not at all.
-#[derive(Drop)]
+#[derive(Clone, Copy)]
 pub enum ValueKind {
     Bool,
     Int2,
@@ -26,7 +26,7 @@ pub enum ValueKind {
 }
 
 // A line of the table of types: the type's OID, how many bytes its values have, and the largest number that they may spell.
-#[derive(Drop)]
+#[derive(Clone, Copy)]
 pub struct TypeRow {
     pub oid: u32,
     pub width: usize,
@@ -35,7 +35,7 @@ pub struct TypeRow {
 
 // A binary value with its number in it. A float holds each pattern that is no NaN's; a NaN's pattern is a case of its own, since
 // the logic's floats have one NaN and no bits of it. A time is in microseconds since 2000-01-01.
-#[derive(Drop)]
+#[derive(Clone, Copy)]
 pub enum Value {
     Bool(bool),
     Int2(i16),
@@ -50,14 +50,14 @@ pub enum Value {
 }
 
 // What a value is written as: a number of so many bytes, or a part of the source.
-#[derive(Drop)]
+#[derive(Clone, Copy)]
 pub enum Bits {
     Number { width: usize, number: u64 },
     Part { start: usize, length: usize },
 }
 
 // What a step gives.
-#[derive(Drop)]
+#[derive(Clone, Copy)]
 pub enum TypedColumn {
     Value(Value),
     Over,
@@ -65,14 +65,14 @@ pub enum TypedColumn {
 }
 
 // A typed column, and where stepping stands after it.
-#[derive(Drop)]
+#[derive(Clone, Copy)]
 pub struct TypedStep {
     pub column: TypedColumn,
     pub next: Position,
 }
 
 // The same with its position taken apart.
-#[derive(Drop)]
+#[derive(Clone, Copy)]
 pub struct TypedMoved {
     pub column: TypedColumn,
     pub offset: usize,

@@ -10,7 +10,7 @@ ghost use Rattle.wire.specs.ValueEnd.{value_end};
 mod zeros;
 
 // Why and where a message was refused: the number of the refusal table, and an offset.
-#[derive(Drop)]
+#[derive(Clone, Copy)]
 pub struct Refusal {
     pub number: u8,
     pub offset: usize,
@@ -50,52 +50,52 @@ impl Refusal {
 }
 
 // Where reading stands, or the refusal that stopped it.
-#[derive(Drop)]
+#[derive(Clone, Copy)]
 pub enum Cursor {
     At(usize),
     Refused { number: u8, offset: usize },
 }
 
 // A part of a slice.
-#[derive(Drop)]
+#[derive(Clone, Copy)]
 pub struct Span {
     pub start: usize,
     pub length: usize,
 }
 
 // What a field holds, and where reading stands after it.
-#[derive(Drop)]
+#[derive(Clone, Copy)]
 pub struct Field8 {
     pub value: u8,
     pub next: Cursor,
 }
 
-#[derive(Drop)]
+#[derive(Clone, Copy)]
 pub struct Field16 {
     pub value: u16,
     pub next: Cursor,
 }
 
-#[derive(Drop)]
+#[derive(Clone, Copy)]
 pub struct Field32 {
     pub value: u32,
     pub next: Cursor,
 }
 
-#[derive(Drop)]
+#[derive(Clone, Copy)]
 pub struct Field64 {
     pub value: u64,
     pub next: Cursor,
 }
 
-#[derive(Drop)]
+#[derive(Clone, Copy)]
 pub struct FieldSpan {
     pub value: Span,
     pub next: Cursor,
 }
 
 // What stands at a place: a number, or too few bytes for one.
-#[derive(Drop)]
+#[derive(Clone, Copy)]
 pub enum Word {
     Value(u64),
     Short,

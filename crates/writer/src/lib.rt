@@ -23,7 +23,7 @@ pub use transactions::{
 };
 
 // What writing gives: the length of the message that was written, or why it was not.
-#[derive(Drop)]
+#[derive(Clone, Copy)]
 pub enum Written {
     Length(usize),
     Refused(Refusal),
