@@ -2,7 +2,7 @@
 // Any bytes to a typed message, or one refusal.
 ghost use Rattle.std.specs.Prelude.{◌≡◌};
 ghost use Rattle.message.specs.Kinds.{kind_numbered};
-ghost use Rattle.message.specs.Messages.{refuse, read_named_lem, read_message};
+ghost use Rattle.message.specs.Messages.{refuse, read_named, read_message};
 
 use message::{OldTuple, Read, Version, kind};
 use wire::{Cursor, Refusal};
