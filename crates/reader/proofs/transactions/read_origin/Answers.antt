@@ -1,0 +1,11 @@
+use Rattle.message.specs.Messages.{read_kind}
+use Rattle.reader.proofs.transactions.read_origin.Goals as goal
+
+pub returns : goal.returns
+unfolding read_kind
+returns c =
+    rw (
+      c.settle.ensures,
+      c.text-next.ensures,
+      c.number64-lsn.ensures,
+    )

@@ -1,0 +1,11 @@
+use Rattle.message.specs.Messages.{read_kind}
+use Rattle.reader.proofs.transactions.read_stream_start.Goals as goal
+
+pub returns : goal.returns
+unfolding read_kind
+returns c =
+    rw (
+      c.settle.ensures,
+      c.number8-first.ensures,
+      c.id-xid.ensures,
+    )
