@@ -1,6 +1,6 @@
 -- A search looks at nine rows at most: its places are at most nine, its answer follows from the keys there alone, and the row that it
 -- ends at, where it is one, is one of them. Assumes nothing.
-use mathlib.Core.Path.{◌≡◌, refl, sym, ◌∙◌, ap}
+use mathlib.Core.Path.{subst, ◌≡◌, refl, sym, ◌∙◌, ap}
 use mathlib.Core.List.{List, [], ◌∷◌}
 use mathlib.Core.Bool.{Bool, true, false, cond, ◌||◌, true≢false}
 use Prim.Native.Nat.{ℕ, zero, suc, ◌+◌, ◌-◌, ◌/◌, ◌≤◌, ◌<◌}
@@ -72,12 +72,14 @@ module _ (at : ℕ → ℕ) (k : ℕ) where
           let l : looked at k base size ≡ base + (size - 1) / 2 + 1 = looked_some base size z ∙ rw w in
           let f = seek_look at k n base size in
           let m : seek n at k (looked at k base size) (size / 2) < looked at k base size + size / 2 = omega arith in
-          rw f (or_later (eqb (base + (size - 1) / 2) (seek n at k (looked at k base size) (size / 2))) _ (r (looked at k base size) (omega arith) m))
+          let P : ℕ → Type 0 = λ s. any (is s) ((base + (size - 1) / 2) ∷ looks n at k (looked at k base size) (size / 2)) ≡ true in
+          subst P (sym f) (or_later (eqb (base + (size - 1) / 2) (seek n at k (looked at k base size) (size / 2))) _ (r (looked at k base size) (omega arith) m))
       go false e false w r =
           let z = eqb-false size 0 e in
           let l : looked at k base size ≡ base = looked_some base size z ∙ rw w in
           let f = seek_look at k n base size in
-          rw f (inner l (ltb (seek n at k (looked at k base size) (size / 2)) (looked at k base size + size / 2)) refl z)
+          let P : ℕ → Type 0 = λ s. any (is s) ((base + (size - 1) / 2) ∷ looks n at k (looked at k base size) (size / 2)) ≡ true in
+          subst P (sym f) (inner l (ltb (seek n at k (looked at k base size) (size / 2)) (looked at k base size + size / 2)) refl z)
         where
           inner : looked at k base size ≡ base → (u : Bool) → ltb (seek n at k (looked at k base size) (size / 2)) (looked at k base size + size / 2) ≡ u → (size ≡ 0 → ⊥)
               → eqb (base + (size - 1) / 2) (seek n at k (looked at k base size) (size / 2)) || any (is (seek n at k (looked at k base size) (size / 2))) (looks n at k (looked at k base size) (size / 2)) ≡ true
