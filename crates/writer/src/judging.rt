@@ -1,5 +1,6 @@
 // Judging a field: how long it would be, or why it is refused; nothing is stored.
 ghost use Rattle.std.specs.Prelude.{◌≡◌, ◌+◌, ◌-◌, leb, length};
+ghost use Rattle.std.specs.Prelude.{length as bytes_in};
 ghost use Rattle.wire.specs.declared.Cursor.TheVariants.{At};
 ghost use Rattle.wire.specs.Numbers.{most64};
 ghost use Rattle.wire.specs.Fields.{in_range, member};
@@ -167,7 +168,7 @@ pub fn judge_xid(in_block: bool, xid: u32) -> Cursor
 
 // Whether `length` bytes from `start` lie in the source.
 fn lies(source: &[u8], start: usize, length: usize) -> bool
-    ensures* { do ⌜ result ≡ leb (start + length) (← (⟦source.len()⟧).entry) ⌝ }
+    ensures { result ≡ leb (start + length) (bytes_in source.now) }
 {
     if start <= source.len() {
         length <= source.len() - start
