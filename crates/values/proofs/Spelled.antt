@@ -4,7 +4,7 @@ use mathlib.Core.Path.{◌≡◌, refl, sym, ap, ◌∙◌}
 use mathlib.Core.Bool.{Bool, true, false, cond}
 use native.Mathlib.Omega.{arith}
 use lib.Dec.{eqb}
-use lib.Ieee.{binary32, binary64, fits, nan_bits, of_bits, to_bits}
+use lib.Ieee.{binary32, binary64, nan_bits, of_bits, to_bits}
 use lib.Ieee.Bits.{to_bits-lt, of_bits-fits, nan_bits_is}
 use mir.Syntax.{Width, w16, w32, w64}
 use mir.Val.{to_z, of_z, bits, bool_byte}
