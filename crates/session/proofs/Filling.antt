@@ -164,10 +164,37 @@ module _ (x : ℕ) (nz : NonZero x) (h k : History) (g : Given) (a : AlikeAt x h
   inner_same p q (logical {b}) ok w = ap (λ (r : Place). rule_logical r b) (p ∙ sym q)
   inner_same p q stop ok w = ap rule_stream_stop (p ∙ sym q)
 
-  pub turn_same : {e : Event} → Turn x h e → Turn x k e → accepts (judge rooms h e) ≡ true → Within (entry e g ∷ k) → judge rooms h e ≡ judge rooms k e
-  turn_same (starts {first} p) (starts q) ok w =
+  -- the place at which a message of a block of x stands
+  abbrev stands_at : Event → Place → Type 0
+  stands_at (StreamStart y first) q = q ≡ Idle
+  stands_at e q = q ≡ Block x
+
+  stands : {e : Event} → Turn x k e → stands_at e (place k)
+  stands (starts q) = q
+  stands (goes q origin) = q
+  stands (goes q relation) = q
+  stands (goes q change) = q
+  stands (goes q truncate) = q
+  stands (goes q neutral) = q
+  stands (goes q logical) = q
+  stands (goes q stop) = q
+
+  within_block : {e : Event} → Inner e → stands_at e (place k) → place k ≡ Block x
+  within_block origin q = q
+  within_block relation q = q
+  within_block change q = q
+  within_block truncate q = q
+  within_block neutral q = q
+  within_block logical q = q
+  within_block stop q = q
+
+  same_there : {e : Event} → Turn x h e → stands_at e (place k) → accepts (judge rooms h e) ≡ true → Within (entry e g ∷ k) → judge rooms h e ≡ judge rooms k e
+  same_there (starts {first} p) q ok w =
       let s = start_accepted (place h) first (is_open h x) (leb 16 (open_count h)) ok in
       let shut : is_open k x ≡ not first = sym a.opened ∙ s.0 in
       opens x first h p s.0 s.1
       ∙ sym (opens x first k q shut (λ e. lt-leb 16 (open_count k) (omega (arith, one_opens x first g k (shut ∙ ap not e), w.streams))))
-  turn_same (goes p n) (goes q m) ok w = inner_same p q n ok w
+  same_there (goes p n) q ok w = inner_same p (within_block n q) n ok w
+
+  pub turn_same : {e : Event} → Turn x h e → Turn x k e → accepts (judge rooms h e) ≡ true → Within (entry e g ∷ k) → judge rooms h e ≡ judge rooms k e
+  turn_same s t ok w = same_there s (stands t) ok w

@@ -17,7 +17,7 @@ use Rattle.session.specs.declared.Answer.TheVariants as answer
 use Rattle.session.specs.declared.Session.{Session}
 use Rattle.session.specs.Events.{Event, Begin, Commit, Origin, Relation, Change, Truncate, Neutral, Logical, StreamStart, StreamStop, StreamCommit, StreamAbort, Tuple}
 use Rattle.session.specs.History.{Given, given, History, place, Announced, unannounced, announced, is_idle, in_transaction, in_block, final_lsn, is_announced, holder_at}
-use Rattle.session.specs.Rules.{Rooms, rooms, Sight, refuse, test, all_fit, shaped, all_seen, first_seen, visible, judge_by, Heard, unread, heard, heard_of, hears, answer_to, history_after, answers_by, answers}
+use Rattle.session.specs.Rules.{sight_of, Rooms, rooms, Sight, refuse, test, all_fit, shaped, all_seen, first_seen, visible, judge_by, Heard, unread, heard, heard_of, hears, answer_to, history_after, answers_by, answers}
 use Rattle.session.specs.Machine.{version_in, parts_of, shows, heard_step, step_of}
 use Rattle.session.specs.Runs.{run}
 
@@ -130,7 +130,7 @@ answers_in_range v h (given xs g ∷ l) =
   where
     go : (m : Heard) → HeardIn xs m → Told (length xs) (answer_to rooms h m)
     go (unread n o) i = i
-    go (heard e) i = judged-told (length xs) rooms _ e
+    go (heard e) i = judged-told (length xs) rooms (sight_of h) e
 
 pub run_in_range : RunInRange
 unfolding run step_of
@@ -141,4 +141,4 @@ run_in_range s (given xs g ∷ l) =
   where
     go : (m : Heard) → HeardIn xs m → Told (length xs) (heard_step s m g).answer
     go (unread n o) i = i
-    go (heard e) i = judged-told (length xs) rooms _ e
+    go (heard e) i = judged-told (length xs) rooms (shows s) e

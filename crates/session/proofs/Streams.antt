@@ -85,29 +85,29 @@ module _ (s : Streams) (h : History) (a : Agrees s h) (x : ℕ) (nz : NonZero x)
 
   -- a further S
   pub again : (g : Given) → is_open h x ≡ true → Agrees s (entry (StreamStart x false) g ∷ h)
-  again g is_open = unchanged s h (entry (StreamStart x false) g ∷ h) a (λ t. go t (eqb x t) refl) (λ t z. refl)
+  again g opened = unchanged s h (entry (StreamStart x false) g ∷ h) a (λ t. go t (eqb x t) refl) (λ t z. refl)
     where
       go : (t : ℕ) (v : Bool) → eqb x t ≡ v → eqb x t || is_open h t ≡ is_open h t
-      go t true e = let o : is_open h t ≡ true = rw (eqb-true x t e) at is_open in rw (e, o)
+      go t true e = let o : is_open h t ≡ true = rw (eqb-true x t e) at opened in rw (e, o)
       go t false e = rw e
 
   -- x's end: any history that has x closed and the others as they were
   pub closed : (h' : History) → ((t : ℕ) → is_open h' t ≡ not (eqb x t) && is_open h t) → ((t : ℕ) → is_changed h' t ≡ is_changed h t)
       → is_open h x ≡ true → Agrees (close_in s x) h'
-  closed h' after mark is_open = record {
-    sound = law.close_sound s a.sound x nz (a.same x ∙ is_open);
-    same = λ t. law.close_open s a.sound x nz (a.same x ∙ is_open) t ∙ ap (λ (v : Bool). not (eqb x t) && v) (a.same t) ∙ sym (after t);
+  closed h' after mark opened = record {
+    sound = law.close_sound s a.sound x nz (a.same x ∙ opened);
+    same = λ t. law.close_open s a.sound x nz (a.same x ∙ opened) t ∙ ap (λ (v : Bool). not (eqb x t) && v) (a.same t) ∙ sym (after t);
     marks = λ t z e. go t z (eqb x t) refl (sym (after t) ∙ e) ∙ sym (mark t);
   }
     where
       go : (t : ℕ) → NonZero t → (v : Bool) → eqb x t ≡ v → not (eqb x t) && is_open h t ≡ true → changed_in (close_in s x) t ≡ is_changed h t
       go t z true e q = absurd (false≢true (rw e at q))
-      go t z false e q = law.close_changed s a.sound x nz (a.same x ∙ is_open) t z e ∙ a.marks t z (rw e at q)
+      go t z false e q = law.close_changed s a.sound x nz (a.same x ∙ opened) t z e ∙ a.marks t z (rw e at q)
 
   -- a change in a block of x
   pub marking_x : (h' : History) → ((t : ℕ) → is_open h' t ≡ is_open h t) → ((t : ℕ) → is_changed h' t ≡ eqb x t || is_changed h t) → is_open h x ≡ true → Agrees (mark_in s x) h'
-  marking_x h' after mark is_open = record {
-    sound = law.mark_sound s a.sound x nz (a.same x ∙ is_open);
-    same = λ t. law.mark_open s a.sound x nz (a.same x ∙ is_open) t ∙ a.same t ∙ sym (after t);
-    marks = λ t z e. law.mark_changed s a.sound x nz (a.same x ∙ is_open) t ∙ ap (λ (v : Bool). eqb x t || v) (a.marks t z (sym (after t) ∙ e)) ∙ sym (mark t);
+  marking_x h' after mark opened = record {
+    sound = law.mark_sound s a.sound x nz (a.same x ∙ opened);
+    same = λ t. law.mark_open s a.sound x nz (a.same x ∙ opened) t ∙ a.same t ∙ sym (after t);
+    marks = λ t z e. law.mark_changed s a.sound x nz (a.same x ∙ opened) t ∙ ap (λ (v : Bool). eqb x t || v) (a.marks t z (sym (after t) ∙ e)) ∙ sym (mark t);
   }

@@ -247,6 +247,7 @@ module _ (W : Way) (v : Version) where
           go (heard e) w = inside e w (λ n r. f (entry e (W.given_of i) ∷ h) (turn_open x h p n (λ s. z (w ∙ ap heard s))) r)
 
     to_stop : (l : List W.Item) → ToStop v x (map W.given_of l) → Rest l
+    to_stop [] b h p a = elim b [ ]
     to_stop (i ∷ []) (stops w) h p a = inside i [] h p a StreamStop w (λ n r. no_more (entry StreamStop (W.given_of i) ∷ h) refl)
     to_stop (i ∷ []) (goes z s) h p a = further i [] h p a z (to_stop [] s)
     to_stop (i ∷ (j ∷ l)) (goes z s) h p a = further i (j ∷ l) h p a z (to_stop (j ∷ l) s)
@@ -258,6 +259,7 @@ module _ (W : Way) (v : Version) where
     turned : Turned x h l
 
   block_turned : (x : ℕ) (l : List W.Item) → BlockOf v x (map W.given_of l) → (h : History) → all_taken W (get_all h l) ≡ true → Block-turned x h l
+  block_turned x [] b h a = elim b [ ]
   block_turned x (i ∷ l) (starts {first = first} w s) h a =
       record { proper = nz; idle = p; turned = one_more x nz h i l e q t.0 (turn.starts p) (to_stop x nz l s (entry e (W.given_of i) ∷ h) refl t.1) }
     where

@@ -1,4 +1,5 @@
 #![tactic(auto)]
+
 ghost use Rattle.std.specs.Prelude.{◌≡◌, [], get_or, ℕ};
 ghost use Rattle.session.specs.Events.{Change};
 ghost use Rattle.session.specs.Rules.{answers, named, unnamed};
@@ -66,7 +67,7 @@ impl Head {
 
 // A session: the numbers of its head, in words, and the arrays of the catalog's tables, which alone knows what stands where in them.
 #[repr(C)]
-#[derive(Drop)]
+#[derive(Clone, Copy)]
 pub struct Session {
     pub head: [u64; 6],
     pub stream_xids: [u32; 16],
@@ -78,7 +79,7 @@ pub struct Session {
 }
 
 // A session after a message, and the message's answer.
-#[derive(Drop)]
+#[derive(Clone, Copy)]
 pub struct Stepped {
     pub session: Session,
     pub answer: Answer,
