@@ -1,17 +1,14 @@
 -- What the parts of a step did, put together. Assumes nothing.
 use Prim.Native.Nat.{ℕ, ◌+◌, ◌-◌, ◌≤◌}
-use mathlib.Core.List.{List, [], ◌∷◌}
+use mathlib.Core.List.{List}
 use mathlib.Core.Bool.{Bool, true, false, cond, false≢true}
 use mathlib.Core.Path.{◌≡◌, refl, sym, ◌∙◌, ap, ap₂}
 use native.Mathlib.Omega.{arith}
 use borrow.Author.Tests.{le-leb, lt-leb, leb-true, leb-false}
-use denote.Enum.Declared.{tag_of}
-use types.Run.{OneOf, miss}
 use lib.Dec.{leb}
 use lib.ListN.{length}
 use Rattle.session.specs.declared.Act.{Act}
 use Rattle.session.specs.declared.Act.TheVariants as act
-use Rattle.session.specs.contracts.Act as act-type
 use Rattle.session.specs.declared.Looked.{Looked}
 use Rattle.session.specs.declared.Place.{Place}
 use Rattle.session.specs.declared.Place.TheVariants.{Idle, Transaction, Block}
@@ -87,22 +84,24 @@ pub refused-ruled : (s : Space) (d : Doing) (p : Place) (n : ℕ) (a : Answer) �
 refused-ruled s d p n a w = rw w
 
 -- THE ACTS that do nothing to what is kept
-abbrev quiet : List ℕ
-quiet = 0 ∷ 1 ∷ 2 ∷ 3 ∷ 5 ∷ 6 ∷ 7 ∷ 8 ∷ 9 ∷ []
-
-pub quiet_does : (xs : List ℕ) (a : Act) → OneOf quiet (tag_of act-type.the_type a) → nothing ≡ doing (event_in a xs)
-quiet_does xs (act.Begin lsn x) k = refl
-quiet_does xs (act.Commit lsn) k = refl
-quiet_does xs act.Origin k = refl
-quiet_does xs (act.Relation o s) k = refl
-quiet_does xs (act.Truncate n start x) k = absurd (miss quiet 4 tt k)
-quiet_does xs act.Neutral k = refl
-quiet_does xs act.Transactional k = refl
-quiet_does xs act.Marker k = refl
-quiet_does xs (act.StreamStart x first) k = refl
-quiet_does xs act.StreamStop k = refl
-quiet_does xs (act.StreamCommit x) k = absurd (miss quiet 10 tt k)
-quiet_does xs (act.StreamAbort x sub) k = absurd (miss quiet 11 tt k)
+pub quiet_does :
+    (xs : List ℕ) (a : Act)
+    → ((n start x : ℕ) → a ≡ act.Truncate n start x → ⊥)
+    → ((x : ℕ) → a ≡ act.StreamCommit x → ⊥)
+    → ((x sub : ℕ) → a ≡ act.StreamAbort x sub → ⊥)
+    → nothing ≡ doing (event_in a xs)
+quiet_does xs (act.Begin lsn x) t c b = refl
+quiet_does xs (act.Commit lsn) t c b = refl
+quiet_does xs act.Origin t c b = refl
+quiet_does xs (act.Relation o s) t c b = refl
+quiet_does xs (act.Truncate n start x) t c b = absurd (t n start x refl)
+quiet_does xs act.Neutral t c b = refl
+quiet_does xs act.Transactional t c b = refl
+quiet_does xs act.Marker t c b = refl
+quiet_does xs (act.StreamStart x first) t c b = refl
+quiet_does xs act.StreamStop t c b = refl
+quiet_does xs (act.StreamCommit x) t c b = absurd (c x refl)
+quiet_does xs (act.StreamAbort x sub) t c b = absurd (b x sub refl)
 
 -- AN EVENT, by where the session stands, its answer and the keeper's
 module _ (s : Session) (b : Hold) (out xs : List ℕ) (e : Event) (g : ℕ) (d : Doing) (ed : d ≡ doing e) (p : Place) (ep : p ≡ place_in (head_in s.head))

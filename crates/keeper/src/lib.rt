@@ -20,7 +20,7 @@ pub struct Reply {
 }
 
 // A session after a message, what the message got, and how many bytes are held then.
-#[derive(Drop)]
+#[derive(Clone, Copy)]
 pub struct KeeperStep {
     pub session: Session,
     pub reply: Reply,
