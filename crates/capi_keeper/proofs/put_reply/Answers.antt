@@ -1,0 +1,11 @@
+use mathlib.Core.Path.{refl}
+use Rattle.capi_keeper.proofs.put_reply.Goals as goal
+
+pub returns-in-Accepted : goal.returns-in-Accepted
+returns-in-Accepted c = rw c.in-Accepted.is (refl, refl)
+
+pub returns-in-Change : goal.returns-in-Change
+returns-in-Change c = rw c.in-Change.is (refl, refl)
+
+pub returns-in-Refused : goal.returns-in-Refused
+returns-in-Refused c = rw c.in-Refused.is (refl, refl)
