@@ -1,4 +1,5 @@
 #![tactic(auto)]
+
 mod flat;
 pub mod reading;
 mod rows;

@@ -1,0 +1,32 @@
+use mathlib.Core.Option.{some}
+use Rattle.message.specs.declared.Message.TheVariants as a
+use Rattle.message.specs.Kinds.{message}
+use Rattle.capi.specs.Flat.{message_in}
+use Rattle.capi.proofs.Settled.{Taken, other, written}
+use Rattle.capi.proofs.rows.write_logical_message.Goals as goal
+use Rattle.capi.proofs.rows.write_logical_message.Goals.{After-same_row}
+
+taken :
+    (c : After-same_row)
+    → let ns = c.args.row.now in
+    Taken ns (message_in ns (some message)) c.same_row.result
+taken c =
+    record {
+      it = a.Message (record {
+        xid = c.word.result;
+        flags = c.byte.result;
+        lsn = c.long.result;
+        prefix = c.span.result;
+        content = c.span-2.result;
+      });
+      made = rw (c.span-2.ensures, c.span.ensures, c.long.ensures, c.byte.ensures, c.word.ensures);
+      tested = rw (c.same_row.ensures, c.flatten_logical_message.ensures);
+    }
+
+pub returns-then-same_row : goal.returns-then-same_row
+unfolding taken
+returns-then-same_row c =
+    written _ _ _ (taken (goal.at.returns-then-same_row c).After-same_row) c.if-same_row.true c.write_logical_message.ensures
+
+pub returns-else-same_row : goal.returns-else-same_row
+returns-else-same_row c = other _ _ _ (taken (goal.at.returns-else-same_row c).After-same_row) c.if-same_row.false c.refused.ensures

@@ -1,0 +1,26 @@
+use mathlib.Core.Option.{some}
+use Rattle.message.specs.declared.Message.TheVariants as a
+use Rattle.message.specs.Kinds.{origin}
+use Rattle.capi.specs.Flat.{message_in}
+use Rattle.capi.proofs.Settled.{Taken, other, written}
+use Rattle.capi.proofs.rows.write_origin.Goals as goal
+use Rattle.capi.proofs.rows.write_origin.Goals.{After-same_row}
+
+taken :
+    (c : After-same_row)
+    → let ns = c.args.row.now in
+    Taken ns (message_in ns (some origin)) c.same_row.result
+taken c =
+    record {
+      it = a.Origin (record { lsn = c.long.result; name = c.span.result });
+      made = rw (c.span.ensures, c.long.ensures);
+      tested = rw (c.same_row.ensures, c.flatten_origin.ensures);
+    }
+
+pub returns-then-same_row : goal.returns-then-same_row
+unfolding taken
+returns-then-same_row c =
+    written _ _ _ (taken (goal.at.returns-then-same_row c).After-same_row) c.if-same_row.true c.write_origin.ensures
+
+pub returns-else-same_row : goal.returns-else-same_row
+returns-else-same_row c = other _ _ _ (taken (goal.at.returns-else-same_row c).After-same_row) c.if-same_row.false c.refused.ensures

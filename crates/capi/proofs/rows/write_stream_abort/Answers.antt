@@ -1,0 +1,26 @@
+use mathlib.Core.Option.{some}
+use Rattle.message.specs.declared.Message.TheVariants as a
+use Rattle.message.specs.Kinds.{stream_abort}
+use Rattle.capi.specs.Flat.{message_in}
+use Rattle.capi.proofs.Settled.{Taken, other, written}
+use Rattle.capi.proofs.rows.write_stream_abort.Goals as goal
+use Rattle.capi.proofs.rows.write_stream_abort.Goals.{After-same_row}
+
+taken :
+    (c : After-same_row)
+    → let ns = c.args.row.now in
+    Taken ns (message_in ns (some stream_abort)) c.same_row.result
+taken c =
+    record {
+      it = a.StreamAbort c.word-xid.result c.word-sub_xid.result;
+      made = rw (c.word-sub_xid.ensures, c.word-xid.ensures);
+      tested = rw (c.same_row.ensures, c.flatten_stream_abort.ensures);
+    }
+
+pub returns-then-same_row : goal.returns-then-same_row
+unfolding taken
+returns-then-same_row c src =
+    written _ _ _ (taken (goal.at.returns-then-same_row c).After-same_row) c.if-same_row.true (c.write_stream_abort.ensures src)
+
+pub returns-else-same_row : goal.returns-else-same_row
+returns-else-same_row c src = other _ _ _ (taken (goal.at.returns-else-same_row c).After-same_row) c.if-same_row.false c.refused.ensures

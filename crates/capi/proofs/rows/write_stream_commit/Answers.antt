@@ -1,0 +1,43 @@
+use mathlib.Core.Option.{some}
+use mir.Syntax.{w64}
+use mir.Val.{to_z, of_z}
+use mir.ValLaws.{to_z-of_z}
+use Rattle.message.specs.declared.Message.TheVariants as a
+use Rattle.message.specs.Kinds.{stream_commit}
+use Rattle.capi.specs.Flat.{message_in}
+use Rattle.capi.proofs.Settled.{Taken, other, written}
+use Rattle.capi.proofs.rows.write_stream_commit.Goals as goal
+use Rattle.capi.proofs.rows.write_stream_commit.Goals.{After-same_row}
+
+taken :
+    (c : After-same_row)
+    → let ns = c.args.row.now in
+    Taken ns (message_in ns (some stream_commit)) c.same_row.result
+taken c =
+    record {
+      it = a.StreamCommit (record {
+        xid = c.word.result;
+        flags = c.byte.result;
+        commit_lsn = c.long.result;
+        end_lsn = c.long-2.result;
+        time = to_z w64 (of_z w64 c.signed64.result);
+      });
+      made = rw (
+        to_z-of_z w64 c.signed64.result (record { sfits = c.signed64.type_inv }),
+        c.signed64.ensures,
+        c.long-3.ensures,
+        c.long-2.ensures,
+        c.long.ensures,
+        c.byte.ensures,
+        c.word.ensures,
+      );
+      tested = rw (c.same_row.ensures, c.flatten_stream_commit.ensures);
+    }
+
+pub returns-then-same_row : goal.returns-then-same_row
+unfolding taken
+returns-then-same_row c src =
+    written _ _ _ (taken (goal.at.returns-then-same_row c).After-same_row) c.if-same_row.true (c.write_stream_commit.ensures src)
+
+pub returns-else-same_row : goal.returns-else-same_row
+returns-else-same_row c src = other _ _ _ (taken (goal.at.returns-else-same_row c).After-same_row) c.if-same_row.false c.refused.ensures
