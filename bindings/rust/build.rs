@@ -1,5 +1,5 @@
 //! Links `libcapi.a`, `libcapi_keeper.a` and `libcapi_values.a`, the proved library: from the folder that `KITSORIQU_LIB_DIR` names,
-//! else from where `rt staticlib` writes them.
+//! else from where `tools/archives` writes them.
 use std::env;
 use std::path::{Path, PathBuf};
 use std::process::exit;
@@ -10,7 +10,7 @@ fn link(dir: &Path, name: &str, variable: &str) {
     println!("cargo:rerun-if-changed={}", archive.display());
     if !archive.is_file() {
         eprintln!("{} is missing.", archive.display());
-        eprintln!("Run `rt staticlib {name}` in the repository's root to build it, or name its folder in KITSORIQU_LIB_DIR.");
+        eprintln!("Run `tools/archives {name}` in the repository's root to build it, or name its folder in KITSORIQU_LIB_DIR.");
         exit(1);
     }
     println!("cargo:rustc-link-lib=static={name}");
