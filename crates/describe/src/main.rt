@@ -7,6 +7,9 @@ ghost use Rattle.std.specs.Prelude.{◌≤◌};
 
 use records::{Record, Taken, Window};
 use session::{Session, Stepped};
+use std::env::{Env, FillError};
+use std::io;
+use std::io::Read;
 use summary::Counts;
 use types::{CELLS, ROWS};
 
@@ -25,6 +28,9 @@ mod whole;
 // The longest line, an Update of two tuples, has less than 20,000 bytes.
 const LINE: usize = 20_000;
 
+// How many bytes are read at once: a message that is longer is passed over.
+const ROOM: usize = 65_536;
+
 const LAST: u64 = 0xFFFF_FFFF_FFFF_FFFF;
 
 // The session, the counts and the row for the next announcement's types after a record, and whether another may follow.
@@ -38,13 +44,14 @@ struct Progress {
 
 // Gives the session a message, and tells the message and the answer.
 fn tell_message(
+    rt: &impl Print,
     line: &mut [u8],
     session: Session,
     bytes: &[u8],
     index: u64,
     marks: &[u64; ROWS],
     oids: &[u32; CELLS],
-) -> Stepped {
+) -> io::Result<Stepped> {
     let read = session::read_in(session, bytes);
     let Stepped {
         session: after,
@@ -56,14 +63,20 @@ fn tell_message(
     let at = told::put_read(line, at, read, bytes, &types);
     let at = text::put(line, at, b": ");
     let at = answers::put_answer(line, at, answer, session, read, bytes);
-    text::write_line(line, at);
-    Stepped {
+    text::write_line(rt, line, at)?;
+    Ok(Stepped {
         session: after,
         answer,
-    }
+    })
 }
 
-fn tell_long(line: &mut [u8], letter: u8, size: usize, index: u64) {
+fn tell_long(
+    rt: &impl Print,
+    line: &mut [u8],
+    letter: u8,
+    size: usize,
+    index: u64,
+) -> io::Result<()> {
     let first = [letter];
     let at = text::put_number(line, 0, b"", index);
     let at = text::put(line, at, b" ");
@@ -74,18 +87,19 @@ fn tell_long(line: &mut [u8], letter: u8, size: usize, index: u64) {
         at,
         b" bytes: too long to show, not given to the session",
     );
-    text::write_line(line, at);
+    text::write_line(rt, line, at)
 }
 
 // Tells a record.
 fn tell_record(
+    rt: &impl Print,
     line: &mut [u8],
     record: Record,
     room: &[u8],
     before: Progress,
     marks: &mut [u64; ROWS],
     oids: &mut [u32; CELLS],
-) -> Progress {
+) -> io::Result<Progress> {
     let Progress {
         session,
         counts,
@@ -98,40 +112,46 @@ fn tell_record(
             let Stepped {
                 session: after,
                 answer,
-            } = tell_message(line, session, bytes, counts.index(), marks, oids);
+            } = tell_message(rt, line, session, bytes, counts.index(), marks, oids)?;
             let read = session::read_in(session, bytes);
             let next = types::remember(marks, oids, row, read, answer, bytes, counts.index());
             let place = session::place_of(session);
             let counted = counts.with(place, answer, session::place_of(after), span.length);
-            Progress {
+            Ok(Progress {
                 session: after,
                 counts: counted,
                 row: next,
                 goes_on: true,
-            }
+            })
         }
         Record::Long { letter, size } => {
-            tell_long(line, letter, size, counts.index());
-            Progress {
+            tell_long(rt, line, letter, size, counts.index())?;
+            Ok(Progress {
                 session,
                 counts: counts.with_long(size),
                 row,
                 goes_on: true,
-            }
+            })
         }
         _ => {
-            summary::tell_end(line, counts, record);
-            Progress {
+            summary::tell_end(rt, line, counts, record)?;
+            Ok(Progress {
                 session,
                 counts,
                 row,
                 goes_on: false,
-            }
+            })
         }
     }
 }
 
-fn tell_all(version: u32, room: &mut [u8], line: &mut [u8]) {
+fn tell_all(
+    rt: &impl Print,
+    input: &mut impl Read,
+    version: u32,
+    room: &mut [u8],
+    line: &mut [u8],
+) -> io::Result<()> {
     let mut marks = [0u64; ROWS];
     let mut oids = [0u32; CELLS];
     let mut progress = Progress {
@@ -146,14 +166,15 @@ fn tell_all(version: u32, room: &mut [u8], line: &mut [u8]) {
         let Taken {
             record,
             window: after,
-        } = records::next_record(room, window);
-        progress = tell_record(line, record, room, progress, &mut marks, &mut oids);
+        } = records::next_record(input, room, window)?;
+        progress = tell_record(rt, line, record, room, progress, &mut marks, &mut oids)?;
         if !progress.goes_on {
-            return;
+            return Ok(());
         }
         window = after;
         turns -= 1;
     }
+    Ok(())
 }
 
 // A decimal number of 32 bits.
@@ -193,28 +214,28 @@ fn read_decimal(word: &[u8]) -> Decimal {
     Decimal::Number(value as u32)
 }
 
-fn tell_usage(line: &mut [u8], word: &[u8]) {
+fn tell_usage(rt: &impl Print, line: &mut [u8], word: &[u8]) -> io::Result<()> {
     let at = text::put_text(line, 0, b"", word);
     let at = text::put(
         line,
         at,
         b" is not a version; usage: describe [VERSION] < TRACE, with VERSION in decimal digits, 2 if left out",
     );
-    text::write_line(line, at);
+    text::write_line(rt, line, at)
 }
 
-fn main() {
-    let mut room = io::large_buffer();
+fn main(rt: HostRuntime) -> io::Result<()> {
+    let mut input = rt.stdin();
+    let mut room = [0u8; ROOM];
     let mut line = [0u8; LINE];
     let mut word = [0u8; 64];
-    let count = os::arg_count();
-    if count < 2 {
-        tell_all(2, &mut room, &mut line);
-        return;
-    }
-    let n = os::arg(1, &mut word);
+    let n = match rt.arg(1, &mut word) {
+        Ok(n) => n,
+        Err(FillError::NotPresent) => return tell_all(&rt, &mut input, 2, &mut room, &mut line),
+        Err(FillError::TooLong) => 0,
+    };
     match read_decimal(&word[..n]) {
-        Decimal::Number(version) => tell_all(version, &mut room, &mut line),
-        Decimal::Wrong => tell_usage(&mut line, &word[..n]),
+        Decimal::Number(version) => tell_all(&rt, &mut input, version, &mut room, &mut line),
+        Decimal::Wrong => tell_usage(&rt, &mut line, &word[..n]),
     }
 }

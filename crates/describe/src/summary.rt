@@ -3,10 +3,11 @@ use crate::records::{HEAD, Record};
 use crate::turns::Turns;
 use crate::{answers, text};
 use session::{Answer, Place};
+use std::io;
 
 // How many messages were given, were accepted, were refused with each number, or were too long; the bytes of their records; and the
 // blocks that may change places.
-#[derive(Drop)]
+#[derive(Clone, Copy)]
 pub struct Counts {
     pub given: u64,
     pub accepted: u64,
@@ -69,26 +70,27 @@ impl Counts {
     }
 }
 
-fn tell_refused(line: &mut [u8], number: u8, count: u64) {
+fn tell_refused(rt: &impl Print, line: &mut [u8], number: u8, count: u64) -> io::Result<()> {
     if count == 0 {
-        return;
+        return Ok(());
     }
     let at = text::put_number(line, 0, b"summary: ", count);
     let at = text::put_number(line, at, b" refused ", number as u64);
     let at = text::put(line, at, b": ");
     let at = answers::put_words(line, at, number);
-    text::write_line(line, at);
+    text::write_line(rt, line, at)
 }
 
-fn tell_refusals(line: &mut [u8], counts: [u64; 14]) {
+fn tell_refusals(rt: &impl Print, line: &mut [u8], counts: [u64; 14]) -> io::Result<()> {
     let mut k: u8 = 1;
     while k < 14 {
-        tell_refused(line, k, counts[k as usize]);
+        tell_refused(rt, line, k, counts[k as usize])?;
         k += 1;
     }
+    Ok(())
 }
 
-fn tell_counts(line: &mut [u8], counts: Counts) {
+fn tell_counts(rt: &impl Print, line: &mut [u8], counts: Counts) -> io::Result<()> {
     let number_refused = std::num::wrapping_sub_u64(counts.given, counts.accepted);
     let refused = counts.refused;
     let at = text::put_count(line, 0, b"summary: ", counts.given, b" message");
@@ -96,14 +98,14 @@ fn tell_counts(line: &mut [u8], counts: Counts) {
     let at = text::put_number(line, at, b" accepted, ", number_refused);
     let at = text::put_number(line, at, b" refused; ", counts.long);
     let at = text::put(line, at, b" too long and skipped");
-    text::write_line(line, at);
-    tell_refusals(line, refused);
+    text::write_line(rt, line, at)?;
+    tell_refusals(rt, line, refused)
 }
 
-fn tell_turns(line: &mut [u8], turns: Turns) {
+fn tell_turns(rt: &impl Print, line: &mut [u8], turns: Turns) -> io::Result<()> {
     let pairs = turns.pairs();
     if pairs == 0 {
-        return;
+        return Ok(());
     }
     let at = text::put_count(line, 0, b"summary: ", pairs, b" pair");
     let at = text::put(
@@ -111,27 +113,27 @@ fn tell_turns(line: &mut [u8], turns: Turns) {
         at,
         b" of neighbouring blocks, of different xids and all accepted, may change places: answers stay the same, and released bytes where a keeper has room for both",
     );
-    text::write_line(line, at);
+    text::write_line(rt, line, at)
 }
 
-fn tell_whole(line: &mut [u8], bytes: u64) {
+fn tell_whole(rt: &impl Print, line: &mut [u8], bytes: u64) -> io::Result<()> {
     let at = text::put_count(line, 0, b"summary: whole, ", bytes, b" byte");
-    text::write_line(line, at);
+    text::write_line(rt, line, at)
 }
 
-fn tell_damage(line: &mut [u8], offset: u64, words: &[u8]) {
+fn tell_damage(rt: &impl Print, line: &mut [u8], offset: u64, words: &[u8]) -> io::Result<()> {
     let at = text::put_number(line, 0, b"summary: damaged record at byte ", offset);
     let at = text::put(line, at, words);
-    text::write_line(line, at);
+    text::write_line(rt, line, at)
 }
 
 // The summary, with how the trace ends behind the records that were counted.
-pub fn tell_end(line: &mut [u8], counts: Counts, end: Record) {
-    tell_counts(line, counts);
-    tell_turns(line, counts.turns);
+pub fn tell_end(rt: &impl Print, line: &mut [u8], counts: Counts, end: Record) -> io::Result<()> {
+    tell_counts(rt, line, counts)?;
+    tell_turns(rt, line, counts.turns)?;
     match end {
-        Record::BadMark => tell_damage(line, counts.bytes, b": bad mark"),
-        Record::Cut => tell_damage(line, counts.bytes, b": cut record"),
-        _ => tell_whole(line, counts.bytes),
+        Record::BadMark => tell_damage(rt, line, counts.bytes, b": bad mark"),
+        Record::Cut => tell_damage(rt, line, counts.bytes, b": cut record"),
+        _ => tell_whole(rt, line, counts.bytes),
     }
 }

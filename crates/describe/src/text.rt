@@ -1,8 +1,6 @@
 // Numbers, bytes and texts, put into a line at an offset; each function gives where the line goes on. A full line takes no more.
 ghost use Rattle.std.specs.Prelude.{◌≡◌, ◌+◌, ◌<◌, ◌≤◌, length, take, slice_set};
 
-use libc::STDOUT_FILENO;
-
 // How bytes are shown: as they are, with escapes, as two hex digits each, or as capitals.
 const PLAIN: u8 = 0;
 
@@ -210,7 +208,7 @@ pub fn put_shape(line: &mut [u8], at: usize, words: &[u8], identity: u8, columns
 }
 
 // Writes the line, which ends here.
-pub fn write_line(line: &mut [u8], at: usize) {
+pub fn write_line(rt: &impl Print, line: &mut [u8], at: usize) -> std::io::Result<()> {
     let end = put_byte(line, at, b'\n');
-    io::write_all(STDOUT_FILENO, front(line, end));
+    rt.write_all(front(line, end))
 }

@@ -4,7 +4,7 @@ use session::{Answer, Place};
 
 // The xid of the block that is open, and of the one that ended last where nothing came behind it: 0 where there is none, and where one
 // of its messages was not accepted. Then how many neighbours may change places.
-#[derive(Drop)]
+#[derive(Clone, Copy)]
 pub struct Turns {
     open: u32,
     last: u32,
