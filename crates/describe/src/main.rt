@@ -28,7 +28,7 @@ mod whole;
 // The longest line, an Update of two tuples, has less than 20,000 bytes.
 const LINE: usize = 20_000;
 
-// How many bytes are read at once: a message that is longer is passed over.
+// The room for a record. A longer one is passed over.
 const ROOM: usize = 65_536;
 
 const LAST: u64 = 0xFFFF_FFFF_FFFF_FFFF;
@@ -232,6 +232,7 @@ fn main(rt: HostRuntime) -> io::Result<()> {
     let n = match rt.arg(1, &mut word) {
         Ok(n) => n,
         Err(FillError::NotPresent) => return tell_all(&rt, &mut input, 2, &mut room, &mut line),
+        // A word that is longer than the buffer is told as an empty one.
         Err(FillError::TooLong) => 0,
     };
     match read_decimal(&word[..n]) {
