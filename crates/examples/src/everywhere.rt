@@ -28,7 +28,7 @@ fn is_answered(value: Value, source: &[u8], room: usize, want: Refusal, bytes: &
     let size = bytes.len();
     answer.number == want.number
         && answer.offset == want.offset
-        && check::same(text::front(&out, size), bytes)
+        && text::front(&out, size) == bytes
         && writing::is_untouched(text::back(&out, size))
 }
 
@@ -109,39 +109,39 @@ pub fn agrees(s: &[u8], offset: usize, left: usize, type_oid: u32) -> bool {
     }
 }
 
-fn is_found(s: &[u8], offset: usize, type_oid: u32) -> bool {
+fn is_found(rt: &impl Print, s: &[u8], offset: usize, type_oid: u32) -> bool {
     let is_agreed = agrees(s, offset, 1, type_oid)
         && agrees(s, offset, LAST, type_oid)
         && agrees(s, offset, 0, type_oid);
     if !is_agreed {
-        crate::print(b"  ");
-        crate::print_bytes(s);
-        crate::print(b" at ");
-        crate::print_number(offset as u64);
-        crate::print(b" by type ");
-        crate::print_number(type_oid as u64);
-        crate::print(b"\n");
+        crate::print(rt, b"  ");
+        crate::print_bytes(rt, s);
+        crate::print(rt, b" at ");
+        crate::print_number(rt, offset as u64);
+        crate::print(rt, b" by type ");
+        crate::print_number(rt, type_oid as u64);
+        crate::print(rt, b"\n");
     }
     is_agreed
 }
 
-fn run_types(tally: Tally, s: &[u8], offset: usize) -> Tally {
+fn run_types(rt: &impl Print, tally: Tally, s: &[u8], offset: usize) -> Tally {
     let mut sum = tally;
     let mut k: usize = 0;
     while k < TYPES.len() {
-        sum = sum.with(is_found(s, offset, TYPES[k]));
+        sum = sum.with(is_found(rt, s, offset, TYPES[k]));
         k += 1;
     }
     sum
 }
 
 // From each offset, from those past the end, and from the last that there is, by every type.
-pub fn run(tally: Tally, s: &[u8]) -> Tally {
-    let mut sum = run_types(tally, s, LAST);
+pub fn run(rt: &impl Print, tally: Tally, s: &[u8]) -> Tally {
+    let mut sum = run_types(rt, tally, s, LAST);
     let end = plus(s.len(), 2);
     let mut at: usize = 0;
     while at < end {
-        sum = run_types(sum, s, at);
+        sum = run_types(rt, sum, s, at);
         at += 1;
     }
     sum

@@ -59,9 +59,9 @@ fn start(tally: Tally, session: Session, room: usize) -> Running {
     }
 }
 
-fn not_a_case(run: Running, line: &[u8]) -> Running {
-    crate::print(b"  not a case: ");
-    crate::print(line);
+fn not_a_case(rt: &impl Print, run: Running, line: &[u8]) -> Running {
+    crate::print(rt, b"  not a case: ");
+    crate::print(rt, line);
     run.with(false)
 }
 
@@ -81,17 +81,24 @@ pub fn part(bytes: &mut [u8], size: usize) -> &mut [u8] {
     }
 }
 
-fn start_line(run: Running, line: &[u8]) -> Running {
+fn start_line(rt: &impl Print, run: Running, line: &[u8]) -> Running {
     let version = text::read_decimal(line, 1);
     let room = size_at(line, version.next);
     if !room.good {
-        return not_a_case(run, line);
+        return not_a_case(rt, run, line);
     }
     let tally = run.tally;
     start(tally, sessions::fresh(line), room.value as usize)
 }
 
-fn give(run: Running, bytes: &[u8], size: usize, line: &[u8], answer: usize) -> Running {
+fn give(
+    rt: &impl Print,
+    run: Running,
+    bytes: &[u8],
+    size: usize,
+    line: &[u8],
+    answer: usize,
+) -> Running {
     let Running {
         session,
         given,
@@ -128,18 +135,19 @@ fn give(run: Running, bytes: &[u8], size: usize, line: &[u8], answer: usize) -> 
         held: holds,
         out,
         released,
-        tally: tally.with(sessions::is_said(said, line, answer)),
+        tally: tally.with(sessions::is_said(rt, said, line, answer)),
     }
 }
 
-fn give_line(run: Running, line: &[u8], message: &mut [u8]) -> Running {
+fn give_line(rt: &impl Print, run: Running, line: &[u8], message: &mut [u8]) -> Running {
     let size = size_at(line, 1);
     let hex = text::hex_bytes(line, size.next, b'=', message);
     if !size.good || !hex.good {
-        return not_a_case(run, line);
+        return not_a_case(rt, run, line);
     }
     let answer = std::num::wrapping_add_usize(hex.next, 1);
     give(
+        rt,
         run,
         text::front(message, hex.size),
         size.value as usize,
@@ -148,12 +156,12 @@ fn give_line(run: Running, line: &[u8], message: &mut [u8]) -> Running {
     )
 }
 
-fn put_line(run: Running, line: &[u8]) -> Running {
+fn put_line(rt: &impl Print, run: Running, line: &[u8]) -> Running {
     let mut after = run;
     let mut buffer = after.buffer;
     let hex = text::hex_bytes(line, 1, b'\n', &mut buffer);
     if !hex.good {
-        return not_a_case(after, line);
+        return not_a_case(rt, after, line);
     }
     after.buffer = buffer;
     after.before = buffer;
@@ -162,63 +170,70 @@ fn put_line(run: Running, line: &[u8]) -> Running {
 }
 
 // Whether these bytes are at the start of an array of which so many are in use, and the rest is that of another.
-fn is_laid(bytes: &[u8], used: usize, all: &[u8], other: &[u8], line: &[u8]) -> bool {
+fn is_laid(
+    rt: &impl Print,
+    bytes: &[u8],
+    used: usize,
+    all: &[u8],
+    other: &[u8],
+    line: &[u8],
+) -> bool {
     let size = bytes.len();
     let is_good = used == size
-        && check::same(text::front(all, size), bytes)
-        && check::same(text::back(all, size), text::back(other, size));
+        && text::front(all, size) == bytes
+        && text::back(all, size) == text::back(other, size);
     if !is_good {
-        crate::print(b"  keeper ");
-        crate::print_bytes(text::front(all, used));
-        crate::print(b" to ");
-        crate::print(line);
+        crate::print(rt, b"  keeper ");
+        crate::print_bytes(rt, text::front(all, used));
+        crate::print(rt, b" to ");
+        crate::print(rt, line);
     }
     is_good
 }
 
-fn is_held(run: Running, bytes: &[u8], line: &[u8]) -> bool {
+fn is_held(rt: &impl Print, run: Running, bytes: &[u8], line: &[u8]) -> bool {
     let buffer = run.buffer;
     let before = run.before;
-    is_laid(bytes, run.held, &buffer, &before, line)
+    is_laid(rt, bytes, run.held, &buffer, &before, line)
 }
 
-fn is_released(run: Running, bytes: &[u8], line: &[u8]) -> bool {
+fn is_released(rt: &impl Print, run: Running, bytes: &[u8], line: &[u8]) -> bool {
     let out = run.out;
     let unreleased = [UNRELEASED; ROOM];
-    is_laid(bytes, run.released, &out, &unreleased, line)
+    is_laid(rt, bytes, run.released, &out, &unreleased, line)
 }
 
-fn see_line(run: Running, line: &[u8], message: &mut [u8]) -> Running {
+fn see_line(rt: &impl Print, run: Running, line: &[u8], message: &mut [u8]) -> Running {
     let hex = text::hex_bytes(line, 1, b'\n', message);
     if !hex.good {
-        return not_a_case(run, line);
+        return not_a_case(rt, run, line);
     }
     let bytes = text::front(message, hex.size);
     let is_good = if text::byte_at(line, 0) == b'h' {
-        is_held(run, bytes, line)
+        is_held(rt, run, bytes, line)
     } else {
-        is_released(run, bytes, line)
+        is_released(rt, run, bytes, line)
     };
     run.with(is_good)
 }
 
-fn run_line(run: Running, line: &[u8], message: &mut [u8]) -> Running {
+fn run_line(rt: &impl Print, run: Running, line: &[u8], message: &mut [u8]) -> Running {
     match text::byte_at(line, 0) {
-        b'K' => start_line(run, line),
-        b'k' => give_line(run, line, message),
-        b'H' => put_line(run, line),
-        b'h' | b'o' => see_line(run, line, message),
+        b'K' => start_line(rt, run, line),
+        b'k' => give_line(rt, run, line, message),
+        b'H' => put_line(rt, run, line),
+        b'h' | b'o' => see_line(rt, run, line, message),
         _ => run,
     }
 }
 
 // The lines of a group that concern a session with a keeper.
-pub fn run_lines(tally: Tally, lines: &[u8], message: &mut [u8]) -> Tally {
+pub fn run_lines(rt: &impl Print, tally: Tally, lines: &[u8], message: &mut [u8]) -> Tally {
     let mut run = start(tally, session::start_default(), 0);
     let mut at = 0;
     while at < lines.len() {
         let next = text::next_line(lines, at);
-        run = run_line(run, &lines[at..next], message);
+        run = run_line(rt, run, &lines[at..next], message);
         at = next;
     }
     run.tally

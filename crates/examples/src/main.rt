@@ -7,9 +7,9 @@
 // stand at any offset of a message, and patterns of every type, and written back.
 ghost use Rattle.std.specs.Prelude.{◌≤◌, length};
 
-use libc::{STDIN_FILENO, STDOUT_FILENO};
 use message::{Message, Read, Version};
 use second_reader::Seen;
+use std::io;
 use text::Decimal;
 
 mod everywhere;
@@ -73,67 +73,75 @@ impl Tally {
     }
 }
 
-fn print(text: &[u8]) {
-    io::write_all(STDOUT_FILENO, text);
+// What cannot be written is left out, here and below.
+fn print(rt: &impl Print, text: &[u8]) {
+    let _ = rt.write_all(text);
 }
 
-fn print_number(n: u64) {
-    io::print_decimal(STDOUT_FILENO, n);
+fn print_number(rt: &impl Print, n: u64) {
+    let _ = rt.print(n);
 }
 
-fn print_byte(b: u8) {
-    io::print_hex(STDOUT_FILENO, b as u64, 2);
+fn print_byte(rt: &impl Print, b: u8) {
+    let _ = print!(rt; "{b:02x}");
 }
 
-fn print_bytes(bytes: &[u8]) {
+fn print_bytes(rt: &impl Print, bytes: &[u8]) {
     let mut k = 0;
     while k < bytes.len() {
-        print_byte(bytes[k]);
+        print_byte(rt, bytes[k]);
         k += 1;
     }
 }
 
-fn print_answer(seen: Seen) {
-    print_number(seen.number as u64);
-    print(b" ");
-    print_number(seen.offset as u64);
-    print(b":");
+fn print_answer(rt: &impl Print, seen: Seen) {
+    print_number(rt, seen.number as u64);
+    print(rt, b" ");
+    print_number(rt, seen.offset as u64);
+    print(rt, b":");
     let mut k: usize = 1;
     while k < 16 {
         if k < seen.count {
-            print(b" ");
-            print_number(seen.values[k]);
+            print(rt, b" ");
+            print_number(rt, seen.values[k]);
         }
         k += 1;
     }
 }
 
-fn print_message(version: u32, in_block: bool, bytes: &[u8]) {
-    print(b"  ");
-    print_number(version as u64);
+fn print_message(rt: &impl Print, version: u32, in_block: bool, bytes: &[u8]) {
+    print(rt, b"  ");
+    print_number(rt, version as u64);
     if in_block {
-        print(b" b ");
+        print(rt, b" b ");
     } else {
-        print(b" - ");
+        print(rt, b" - ");
     }
-    print_bytes(bytes);
+    print_bytes(rt, bytes);
 }
 
-fn print_difference(version: u32, in_block: bool, bytes: &[u8], first: Seen, second: Seen) {
-    print_message(version, in_block, bytes);
-    print(b" reader ");
-    print_answer(first);
-    print(b" second ");
-    print_answer(second);
-    print(b"\n");
+fn print_difference(
+    rt: &impl Print,
+    version: u32,
+    in_block: bool,
+    bytes: &[u8],
+    first: Seen,
+    second: Seen,
+) {
+    print_message(rt, version, in_block, bytes);
+    print(rt, b" reader ");
+    print_answer(rt, first);
+    print(rt, b" second ");
+    print_answer(rt, second);
+    print(rt, b"\n");
 }
 
-fn print_tally(tally: Tally) {
-    print(b": ");
-    print_number(tally.agreed);
-    print(b" of ");
-    print_number(tally.cases);
-    print(b" agreed\n");
+fn print_tally(rt: &impl Print, tally: Tally) {
+    print(rt, b": ");
+    print_number(rt, tally.agreed);
+    print(rt, b" of ");
+    print_number(rt, tally.cases);
+    print(rt, b" agreed\n");
 }
 
 fn is_value(decimal: Decimal, value: u64) -> bool {
@@ -179,7 +187,7 @@ fn is_answer(answer: &[u8], seen: Seen) -> bool {
 }
 
 // Gives bytes to both readers.
-fn is_read(version: u32, in_block: bool, bytes: &[u8], answer: &[u8]) -> bool {
+fn is_read(rt: &impl Print, version: u32, in_block: bool, bytes: &[u8], answer: &[u8]) -> bool {
     let first = flat::seen(
         reader::read_message(Version { number: version }, in_block, bytes),
         bytes,
@@ -187,60 +195,67 @@ fn is_read(version: u32, in_block: bool, bytes: &[u8], answer: &[u8]) -> bool {
     let second = second_reader::read(version, in_block, bytes);
     let is_agreed = flat::same(first, second) && is_answer(answer, first);
     if !is_agreed {
-        print_difference(version, in_block, bytes, first, second);
+        print_difference(rt, version, in_block, bytes, first, second);
     }
     is_agreed
 }
 
 // Steps through what the bytes have, or to their refusal.
-fn is_stepped(version: u32, in_block: bool, bytes: &[u8]) -> bool {
+fn is_stepped(rt: &impl Print, version: u32, in_block: bool, bytes: &[u8]) -> bool {
     let second = second_reader::read(version, in_block, bytes);
     let is_agreed = steps::agrees(version, in_block, bytes, second);
     if !is_agreed {
-        print_message(version, in_block, bytes);
-        print(b" steps\n");
+        print_message(rt, version, in_block, bytes);
+        print(rt, b" steps\n");
     }
     is_agreed
 }
 
-fn run_with_any_answer(tally: Tally, version: u32, in_block: bool, bytes: &[u8]) -> Tally {
-    let is_agreed = is_read(version, in_block, bytes, b"");
-    tally.with(is_agreed && is_stepped(version, in_block, bytes))
+fn run_with_any_answer(
+    rt: &impl Print,
+    tally: Tally,
+    version: u32,
+    in_block: bool,
+    bytes: &[u8],
+) -> Tally {
+    let is_agreed = is_read(rt, version, in_block, bytes, b"");
+    tally.with(is_agreed && is_stepped(rt, version, in_block, bytes))
 }
 
-fn run_at_known_versions(tally: Tally, bytes: &[u8]) -> Tally {
-    let first = run_with_any_answer(tally, 1, false, bytes);
-    let outside = run_with_any_answer(first, 2, false, bytes);
-    run_with_any_answer(outside, 2, true, bytes)
+fn run_at_known_versions(rt: &impl Print, tally: Tally, bytes: &[u8]) -> Tally {
+    let first = run_with_any_answer(rt, tally, 1, false, bytes);
+    let outside = run_with_any_answer(rt, first, 2, false, bytes);
+    run_with_any_answer(rt, outside, 2, true, bytes)
 }
 
-fn run_at_every_version(tally: Tally, bytes: &[u8]) -> Tally {
+fn run_at_every_version(rt: &impl Print, tally: Tally, bytes: &[u8]) -> Tally {
     let mut sum = tally;
     let mut k: usize = 0;
     while k < VERSIONS.len() {
-        sum = run_with_any_answer(sum, VERSIONS[k], false, bytes);
-        sum = run_with_any_answer(sum, VERSIONS[k], true, bytes);
+        sum = run_with_any_answer(rt, sum, VERSIONS[k], false, bytes);
+        sum = run_with_any_answer(rt, sum, VERSIONS[k], true, bytes);
         k += 1;
     }
     sum
 }
 
-fn run_cut_short(tally: Tally, bytes: &[u8]) -> Tally {
+fn run_cut_short(rt: &impl Print, tally: Tally, bytes: &[u8]) -> Tally {
     let mut sum = tally;
     let mut n = 0;
     while n < bytes.len() {
-        sum = run_at_known_versions(sum, text::front(bytes, n));
+        sum = run_at_known_versions(rt, sum, text::front(bytes, n));
         n += 1;
     }
     sum
 }
 
-fn run_longer(tally: Tally, message: &mut [u8], size: usize) -> Tally {
+fn run_longer(rt: &impl Print, tally: Tally, message: &mut [u8], size: usize) -> Tally {
     let mut sum = tally;
     let mut k: usize = 0;
     while k < BYTES.len() {
         text::put(message, size, BYTES[k]);
         sum = run_at_known_versions(
+            rt,
             sum,
             text::front(message, std::num::wrapping_add_usize(size, 1)),
         );
@@ -249,103 +264,136 @@ fn run_longer(tally: Tally, message: &mut [u8], size: usize) -> Tally {
     sum
 }
 
-fn run_changed_at(tally: Tally, message: &mut [u8], size: usize, at: usize) -> Tally {
+fn run_changed_at(
+    rt: &impl Print,
+    tally: Tally,
+    message: &mut [u8],
+    size: usize,
+    at: usize,
+) -> Tally {
     let before = text::byte_at(message, at);
     let mut sum = tally;
     let mut k: usize = 0;
     while k < BYTES.len() {
         text::put(message, at, BYTES[k]);
-        sum = run_at_known_versions(sum, text::front(message, size));
+        sum = run_at_known_versions(rt, sum, text::front(message, size));
         k += 1;
     }
     text::put(message, at, before);
     sum
 }
 
-fn run_changed(tally: Tally, message: &mut [u8], size: usize) -> Tally {
+fn run_changed(rt: &impl Print, tally: Tally, message: &mut [u8], size: usize) -> Tally {
     let mut sum = tally;
     let mut at: usize = 0;
     while at < size {
-        sum = run_changed_at(sum, message, size, at);
+        sum = run_changed_at(rt, sum, message, size, at);
         at += 1;
     }
     sum
 }
 
-fn run_varied(tally: Tally, pass: u8, message: &mut [u8], size: usize) -> Tally {
+fn run_varied(rt: &impl Print, tally: Tally, pass: u8, message: &mut [u8], size: usize) -> Tally {
     match pass {
-        EVERY_VERSION => run_at_every_version(tally, text::front(message, size)),
-        CUT_SHORT => run_cut_short(tally, text::front(message, size)),
-        LONGER => run_longer(tally, message, size),
-        CHANGED => run_changed(tally, message, size),
+        EVERY_VERSION => run_at_every_version(rt, tally, text::front(message, size)),
+        CUT_SHORT => run_cut_short(rt, tally, text::front(message, size)),
+        LONGER => run_longer(rt, tally, message, size),
+        CHANGED => run_changed(rt, tally, message, size),
         _ => tally,
     }
 }
 
-fn is_stepped_from(version: u32, in_block: bool, bytes: &[u8], at: usize) -> bool {
+fn is_stepped_from(rt: &impl Print, version: u32, in_block: bool, bytes: &[u8], at: usize) -> bool {
     let is_agreed = steps::agrees_at(bytes, at);
     if !is_agreed {
-        print_message(version, in_block, bytes);
-        print(b" steps from ");
-        print_number(at as u64);
-        print(b"\n");
+        print_message(rt, version, in_block, bytes);
+        print(rt, b" steps from ");
+        print_number(rt, at as u64);
+        print(rt, b"\n");
     }
     is_agreed
 }
 
 // Steps from each offset of the message, from those past it, and from the last that there is.
-fn run_positions(tally: Tally, version: u32, in_block: bool, bytes: &[u8]) -> Tally {
-    let mut sum = tally.with(is_stepped_from(version, in_block, bytes, LAST));
+fn run_positions(
+    rt: &impl Print,
+    tally: Tally,
+    version: u32,
+    in_block: bool,
+    bytes: &[u8],
+) -> Tally {
+    let mut sum = tally.with(is_stepped_from(rt, version, in_block, bytes, LAST));
     let end = std::num::wrapping_add_usize(bytes.len(), 2);
     let mut at: usize = 0;
     while at < end {
-        sum = sum.with(is_stepped_from(version, in_block, bytes, at));
+        sum = sum.with(is_stepped_from(rt, version, in_block, bytes, at));
         at += 1;
     }
     sum
 }
 
-fn is_written(pass: u8, version: u32, in_block: bool, message: Message, bytes: &[u8]) -> bool {
+fn is_written(
+    rt: &impl Print,
+    pass: u8,
+    version: u32,
+    in_block: bool,
+    message: Message,
+    bytes: &[u8],
+) -> bool {
     let is_good = match pass {
         WRITTEN_BACK => writing::is_written_back(version, in_block, message, bytes),
         LESS_ROOM => writing::is_refused_in_less(version, in_block, message, bytes),
         _ => writing::is_written_at_every_version(in_block, message, bytes),
     };
     if !is_good {
-        print_message(version, in_block, bytes);
-        print(b" written\n");
+        print_message(rt, version, in_block, bytes);
+        print(rt, b" written\n");
     }
     is_good
 }
 
 // Writes the message that the bytes are, if they are one.
-fn run_written(tally: Tally, pass: u8, version: u32, in_block: bool, bytes: &[u8]) -> Tally {
+fn run_written(
+    rt: &impl Print,
+    tally: Tally,
+    pass: u8,
+    version: u32,
+    in_block: bool,
+    bytes: &[u8],
+) -> Tally {
     match reader::read_message(Version { number: version }, in_block, bytes) {
-        Read::Message(m) => tally.with(is_written(pass, version, in_block, m, bytes)),
+        Read::Message(m) => tally.with(is_written(rt, pass, version, in_block, m, bytes)),
         Read::Refused(_) => tally,
     }
 }
 
-fn run_more(tally: Tally, pass: u8, version: u32, in_block: bool, bytes: &[u8]) -> Tally {
+fn run_more(
+    rt: &impl Print,
+    tally: Tally,
+    pass: u8,
+    version: u32,
+    in_block: bool,
+    bytes: &[u8],
+) -> Tally {
     match pass {
-        STEPS => tally.with(is_stepped(version, in_block, bytes)),
-        POSITIONS => run_positions(tally, version, in_block, bytes),
-        VALUES => everywhere::run(tally, bytes),
-        _ => run_written(tally, pass, version, in_block, bytes),
+        STEPS => tally.with(is_stepped(rt, version, in_block, bytes)),
+        POSITIONS => run_positions(rt, tally, version, in_block, bytes),
+        VALUES => everywhere::run(rt, tally, bytes),
+        _ => run_written(rt, tally, pass, version, in_block, bytes),
     }
 }
 
 // A made-up message, or a value.
-fn run_other(tally: Tally, pass: u8, line: &[u8], message: &mut [u8]) -> Tally {
+fn run_other(rt: &impl Print, tally: Tally, pass: u8, line: &[u8], message: &mut [u8]) -> Tally {
     let is_value = text::byte_at(line, 0) == b'v';
     if pass == AS_WRITTEN && is_value {
-        return typed::run_case(tally, line, message);
+        return typed::run_case(rt, tally, line, message);
     }
     if pass == AS_WRITTEN {
-        return writing::run_made(tally, line, message);
+        return writing::run_made(rt, tally, line, message);
     }
     if pass == VALUES && is_value {
-        return typed::run_everywhere(tally, line, message);
+        return typed::run_everywhere(rt, tally, line, message);
     }
     tally
 }
@@ -359,23 +407,24 @@ fn is_no_case(first: u8) -> bool {
     }
 }
 
-fn run_line(tally: Tally, pass: u8, line: &[u8], message: &mut [u8]) -> Tally {
+fn run_line(rt: &impl Print, tally: Tally, pass: u8, line: &[u8], message: &mut [u8]) -> Tally {
     let first = text::byte_at(line, 0);
     if is_no_case(first) {
         return tally;
     }
     if first == b'!' || first == b'v' {
-        return run_other(tally, pass, line, message);
+        return run_other(rt, tally, pass, line, message);
     }
     let is_varied = first == b'~';
     let case = text::parse_case(line, is_varied as usize, message);
     if !case.good {
-        print(b"  not a case: ");
-        print(line);
+        print(rt, b"  not a case: ");
+        print(rt, line);
         return tally.with(false);
     }
     if pass == AS_WRITTEN {
         return tally.with(is_read(
+            rt,
             case.version,
             case.in_block,
             text::front(message, case.size),
@@ -384,6 +433,7 @@ fn run_line(tally: Tally, pass: u8, line: &[u8], message: &mut [u8]) -> Tally {
     }
     if CHANGED < pass {
         return run_more(
+            rt,
             tally,
             pass,
             case.version,
@@ -392,13 +442,13 @@ fn run_line(tally: Tally, pass: u8, line: &[u8], message: &mut [u8]) -> Tally {
         );
     }
     if is_varied {
-        run_varied(tally, pass, message, case.size)
+        run_varied(rt, tally, pass, message, case.size)
     } else {
         tally
     }
 }
 
-fn run_lines(pass: u8, lines: &[u8], message: &mut [u8]) -> Tally {
+fn run_lines(rt: &impl Print, pass: u8, lines: &[u8], message: &mut [u8]) -> Tally {
     let mut tally = Tally {
         cases: 0,
         agreed: 0,
@@ -406,72 +456,71 @@ fn run_lines(pass: u8, lines: &[u8], message: &mut [u8]) -> Tally {
     let mut at = 0;
     while at < lines.len() {
         let next = text::next_line(lines, at);
-        tally = run_line(tally, pass, &lines[at..next], message);
+        tally = run_line(rt, tally, pass, &lines[at..next], message);
         at = next;
     }
     tally
 }
 
-fn run_group(group: &[u8], message: &mut [u8]) {
-    let read = run_lines(AS_WRITTEN, group, message);
-    let given = sessions::run_lines(read, group, message);
-    let kept = keepers::run_lines(given, group, message);
-    print(text::name(group));
-    print_tally(kept);
+fn run_group(rt: &impl Print, group: &[u8], message: &mut [u8]) {
+    let read = run_lines(rt, AS_WRITTEN, group, message);
+    let given = sessions::run_lines(rt, read, group, message);
+    let kept = keepers::run_lines(rt, given, group, message);
+    print(rt, text::name(group));
+    print_tally(rt, kept);
 }
 
-fn run_groups(cases: &[u8], message: &mut [u8]) {
+fn run_groups(rt: &impl Print, cases: &[u8], message: &mut [u8]) {
     let mut at = text::next_group(cases, 0);
     while at < cases.len() {
         let next = text::next_group(cases, text::next_line(cases, at));
-        run_group(&cases[at..next], message);
+        run_group(rt, &cases[at..next], message);
         at = next;
     }
 }
 
-fn print_pass(pass: u8) {
+fn print_pass(rt: &impl Print, pass: u8) {
     match pass {
-        EVERY_VERSION => print(b"varied, every version and place"),
-        CUT_SHORT => print(b"varied, cut short"),
-        LONGER => print(b"varied, a byte longer"),
-        CHANGED => print(b"varied, a byte changed"),
-        STEPS => print(b"steps"),
-        POSITIONS => print(b"steps from every offset"),
-        WRITTEN_BACK => print(b"written back"),
-        LESS_ROOM => print(b"written back into less room"),
-        VALUES => print(b"values from every offset"),
-        _ => print(b"written back at every version and place"),
+        EVERY_VERSION => print(rt, b"varied, every version and place"),
+        CUT_SHORT => print(rt, b"varied, cut short"),
+        LONGER => print(rt, b"varied, a byte longer"),
+        CHANGED => print(rt, b"varied, a byte changed"),
+        STEPS => print(rt, b"steps"),
+        POSITIONS => print(rt, b"steps from every offset"),
+        WRITTEN_BACK => print(rt, b"written back"),
+        LESS_ROOM => print(rt, b"written back into less room"),
+        VALUES => print(rt, b"values from every offset"),
+        _ => print(rt, b"written back at every version and place"),
     }
 }
 
-fn run_passes(cases: &[u8], message: &mut [u8]) {
+fn run_passes(rt: &impl Print, cases: &[u8], message: &mut [u8]) {
     let mut pass = EVERY_VERSION;
     while pass <= VALUES {
-        let tally = run_lines(pass, cases, message);
-        print_pass(pass);
-        print_tally(tally);
+        let tally = run_lines(rt, pass, cases, message);
+        print_pass(rt, pass);
+        print_tally(rt, tally);
         pass += 1;
     }
 }
 
-fn run_all(cases: &[u8], message: &mut [u8]) {
-    run_groups(cases, message);
-    run_passes(cases, message);
-    sweep::run();
+fn run_all(rt: &impl Print, cases: &[u8], message: &mut [u8]) {
+    run_groups(rt, cases, message);
+    run_passes(rt, cases, message);
+    sweep::run(rt);
 }
 
-fn read_some(room: &mut [u8]) -> usize
+fn read_some(input: &mut impl io::Read, room: &mut [u8]) -> usize
     ensures { result ≤ length room.old }
 {
-    let got = libc::read(STDIN_FILENO, room);
-    io::count(got, room)
+    input.read(room).unwrap_or(0)
 }
 
 // Reads until there is no more input, or no more room.
-fn read_all(room: &mut [u8]) -> usize {
+fn read_all(input: &mut impl io::Read, room: &mut [u8]) -> usize {
     let mut n = 0;
     while n < room.len() {
-        let got = read_some(&mut room[n..]);
+        let got = read_some(input, &mut room[n..]);
         if got == 0 {
             return n;
         }
@@ -480,12 +529,12 @@ fn read_all(room: &mut [u8]) -> usize {
     n
 }
 
-fn main() {
+fn main(rt: HostRuntime) {
     let mut room = [0u8; ROOM];
-    let mut message = io::large_buffer();
-    let n = read_all(&mut room);
+    let mut message = [0u8; 65536];
+    let n = read_all(&mut rt.stdin(), &mut room);
     if n == room.len() {
-        print(b"no room for the cases\n");
+        print(&rt, b"no room for the cases\n");
     }
-    run_all(text::front(&room, n), &mut message);
+    run_all(&rt, text::front(&room, n), &mut message);
 }

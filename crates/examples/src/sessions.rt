@@ -50,19 +50,19 @@ fn seen(answer: Answer) -> Seen {
 }
 
 // Whether an answer is the one that stands in a line.
-pub fn is_said(said: Answer, line: &[u8], answer: usize) -> bool {
+pub fn is_said(rt: &impl Print, said: Answer, line: &[u8], answer: usize) -> bool {
     let saw = seen(said);
     let is_agreed = crate::is_answer(text::back(line, answer), saw);
     if !is_agreed {
-        crate::print(b"  session ");
-        crate::print_answer(saw);
-        crate::print(b" to ");
-        crate::print(line);
+        crate::print(rt, b"  session ");
+        crate::print_answer(rt, saw);
+        crate::print(rt, b" to ");
+        crate::print(rt, line);
     }
     is_agreed
 }
 
-fn give(run: Running, bytes: &[u8], line: &[u8], answer: usize) -> Running {
+fn give(rt: &impl Print, run: Running, bytes: &[u8], line: &[u8], answer: usize) -> Running {
     let Running {
         session,
         given,
@@ -75,7 +75,7 @@ fn give(run: Running, bytes: &[u8], line: &[u8], answer: usize) -> Running {
     Running {
         session: after,
         given: std::num::wrapping_add_u64(given, 1),
-        tally: tally.with(is_said(said, line, answer)),
+        tally: tally.with(is_said(rt, said, line, answer)),
     }
 }
 
@@ -105,18 +105,18 @@ fn repeats(line: &[u8]) -> Repetition {
     }
 }
 
-fn give_line(run: Running, line: &[u8], message: &mut [u8]) -> Running {
+fn give_line(rt: &impl Print, run: Running, line: &[u8], message: &mut [u8]) -> Running {
     let times = repeats(line);
     let hex = text::hex_bytes(line, times.next, b'=', message);
     let answer = std::num::wrapping_add_usize(hex.next, 1);
     if !hex.good {
-        crate::print(b"  not a message: ");
-        crate::print(line);
+        crate::print(rt, b"  not a message: ");
+        crate::print(rt, line);
     }
     let mut sum = run;
     let mut left = times.count;
     while 0 < left {
-        sum = give(sum, text::front(message, hex.size), line, answer);
+        sum = give(rt, sum, text::front(message, hex.size), line, answer);
         let counted = text::byte_at(message, times.at);
         text::put(message, times.at, std::num::wrapping_add_u8(counted, 1));
         left -= 1;
@@ -133,7 +133,7 @@ pub fn fresh(line: &[u8]) -> Session {
     }
 }
 
-fn run_line(run: Running, line: &[u8], message: &mut [u8]) -> Running {
+fn run_line(rt: &impl Print, run: Running, line: &[u8], message: &mut [u8]) -> Running {
     match text::byte_at(line, 0) {
         b'>' => {
             let tally = run.tally;
@@ -143,13 +143,13 @@ fn run_line(run: Running, line: &[u8], message: &mut [u8]) -> Running {
                 tally,
             }
         }
-        b'+' => give_line(run, line, message),
+        b'+' => give_line(rt, run, line, message),
         _ => run,
     }
 }
 
 // The lines of a group that concern a session.
-pub fn run_lines(tally: Tally, lines: &[u8], message: &mut [u8]) -> Tally {
+pub fn run_lines(rt: &impl Print, tally: Tally, lines: &[u8], message: &mut [u8]) -> Tally {
     let mut run = Running {
         session: session::start_default(),
         given: 0,
@@ -158,7 +158,7 @@ pub fn run_lines(tally: Tally, lines: &[u8], message: &mut [u8]) -> Tally {
     let mut at = 0;
     while at < lines.len() {
         let next = text::next_line(lines, at);
-        run = run_line(run, &lines[at..next], message);
+        run = run_line(rt, run, &lines[at..next], message);
         at = next;
     }
     run.tally

@@ -185,7 +185,7 @@ fn run_behind(tally: Tally, sweep: Sweep, front: u64) -> Tally {
     sum
 }
 
-fn run_type(name: &[u8], sweep: Sweep) {
+fn run_type(rt: &impl Print, name: &[u8], sweep: Sweep) {
     let mut sum = Tally {
         cases: 0,
         agreed: 0,
@@ -195,8 +195,8 @@ fn run_type(name: &[u8], sweep: Sweep) {
         sum = run_behind(sum, sweep, front);
         front += 1;
     }
-    crate::print(name);
-    crate::print_tally(sum);
+    crate::print(rt, name);
+    crate::print_tally(rt, sum);
 }
 
 fn typed(type_oid: u32, letter: u8, width: u8, fronts: u64, behinds: usize) -> Sweep {
@@ -209,18 +209,20 @@ fn typed(type_oid: u32, letter: u8, width: u8, fronts: u64, behinds: usize) -> S
     }
 }
 
-pub fn run() {
-    run_type(b"values, every bool", typed(16, b'b', 1, 256, 1));
-    run_type(b"values, every int2", typed(21, b's', 2, 65536, 1));
-    run_type(b"values, int4", typed(23, b'i', 4, 512, 6));
-    run_type(b"values, int8", typed(20, b'l', 8, 4096, 6));
+pub fn run(rt: &impl Print) {
+    run_type(rt, b"values, every bool", typed(16, b'b', 1, 256, 1));
+    run_type(rt, b"values, every int2", typed(21, b's', 2, 65536, 1));
+    run_type(rt, b"values, int4", typed(23, b'i', 4, 512, 6));
+    run_type(rt, b"values, int8", typed(20, b'l', 8, 4096, 6));
     run_type(
+        rt,
         b"values, float4 of every sign and exponent",
         typed(700, b'f', 4, 512, 6),
     );
     run_type(
+        rt,
         b"values, float8 of every sign and exponent",
         typed(701, b'd', 8, 4096, 6),
     );
-    run_type(b"values, timestamptz", typed(1184, b'z', 8, 4096, 6));
+    run_type(rt, b"values, timestamptz", typed(1184, b'z', 8, 4096, 6));
 }

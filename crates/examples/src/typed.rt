@@ -93,21 +93,21 @@ fn is_stepped(case: Case, bytes: &[u8], line: &[u8]) -> bool {
 }
 
 // The value of a line.
-pub fn run_case(tally: Tally, line: &[u8], message: &mut [u8]) -> Tally {
+pub fn run_case(rt: &impl Print, tally: Tally, line: &[u8], message: &mut [u8]) -> Tally {
     let case = parse_case(line, message);
     let bytes = text::front(message, case.size);
     let is_good = case.good
         && is_stepped(case, bytes, line)
         && everywhere::agrees(bytes, case.offset, case.left, case.type_oid);
     if !is_good {
-        crate::print(b"  ");
-        crate::print(line);
+        crate::print(rt, b"  ");
+        crate::print(rt, line);
     }
     tally.with(is_good)
 }
 
 // The bytes of a line from every offset.
-pub fn run_everywhere(tally: Tally, line: &[u8], message: &mut [u8]) -> Tally {
+pub fn run_everywhere(rt: &impl Print, tally: Tally, line: &[u8], message: &mut [u8]) -> Tally {
     let case = parse_case(line, message);
-    everywhere::run(tally, text::front(message, case.size))
+    everywhere::run(rt, tally, text::front(message, case.size))
 }

@@ -82,7 +82,7 @@ fn is_written(v: u32, in_block: bool, m: Message, bytes: &[u8], spare: usize) ->
     if answer.number != 0 || answer.offset != size {
         return false;
     }
-    check::same(text::front(&out, size), bytes) && is_untouched(text::back(&out, size))
+    text::front(&out, size) == bytes && is_untouched(text::back(&out, size))
 }
 
 // Into just enough room, and into more.
@@ -346,7 +346,7 @@ fn is_made(v: u32, in_block: bool, source: &[u8], answer: &[u8]) -> bool {
 }
 
 // Writes the made-up message of a line.
-pub fn run_made(tally: Tally, line: &[u8], message: &mut [u8]) -> Tally {
+pub fn run_made(rt: &impl Print, tally: Tally, line: &[u8], message: &mut [u8]) -> Tally {
     let case = text::parse_case(line, 1, message);
     let is_good = case.good
         && is_made(
@@ -356,8 +356,8 @@ pub fn run_made(tally: Tally, line: &[u8], message: &mut [u8]) -> Tally {
             text::back(line, case.answer),
         );
     if !is_good {
-        crate::print(b"  ");
-        crate::print(line);
+        crate::print(rt, b"  ");
+        crate::print(rt, line);
     }
     tally.with(is_good)
 }
