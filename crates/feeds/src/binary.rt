@@ -36,7 +36,7 @@ fn is_written_back(value: Value, source: &[u8], start: usize, length: usize) -> 
     let mut out = [0u8; ROOM];
     let part = columns::part(source, wire::Span { start, length });
     match values::write_value(value, source, &mut out) {
-        Written::Length(n) => n == length && check::same(front(&out, n), part),
+        Written::Length(n) => n == length && front(&out, n) == part,
         Written::Refused(_) => false,
     }
 }

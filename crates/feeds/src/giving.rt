@@ -31,16 +31,16 @@ pub struct BothAfter {
 }
 
 // Prints a refusal.
-fn note(index: u64, answer: Answer) {
+fn note(rt: &impl Print, index: u64, answer: Answer) {
     match answer {
         Answer::Accepted | Answer::Change { .. } => {}
         Answer::Refused { number, offset } => {
-            print_number(index);
-            print(b": ");
-            print_number(number as u64);
-            print(b" at ");
-            print_number(offset as u64);
-            print(b"\n");
+            print_number(rt, index);
+            print(rt, b": ");
+            print_number(rt, number as u64);
+            print(rt, b" at ");
+            print_number(rt, offset as u64);
+            print(rt, b"\n");
         }
     }
 }
@@ -71,27 +71,27 @@ fn is_stream_commit(bytes: &[u8]) -> bool {
     bytes[0] == b'c'
 }
 
-fn note_released(index: u64, released: &[u8]) {
-    print_number(index);
-    print(b": released ");
-    print_number(released.len() as u64);
-    print(b" bytes in ");
-    print_number(records::count(released));
-    print(b" records\n");
+fn note_released(rt: &impl Print, index: u64, released: &[u8]) {
+    print_number(rt, index);
+    print(rt, b": released ");
+    print_number(rt, released.len() as u64);
+    print(rt, b" bytes in ");
+    print_number(rt, records::count(rt, released));
+    print(rt, b" records\n");
 }
 
 // Prints what an accepted Stream Commit released, and where the keeper's answer is not the session's own.
-fn note_reply(index: u64, bytes: &[u8], answer: Answer, reply: Reply, out: &[u8]) {
+fn note_reply(rt: &impl Print, index: u64, bytes: &[u8], answer: Answer, reply: Reply, out: &[u8]) {
     let Reply {
         answer: said,
         released,
     } = reply;
     if !is_same(said, answer) {
-        print_number(index);
-        print(b": another answer with a keeper\n");
+        print_number(rt, index);
+        print(rt, b": another answer with a keeper\n");
     }
     if is_stream_commit(bytes) && session::accepted(said) {
-        note_released(index, front(out, released));
+        note_released(rt, index, front(out, released));
     }
 }
 
@@ -135,30 +135,43 @@ pub fn step(both: Both, bytes: &[u8], index: u64, buffer: &mut [u8], out: &mut [
 }
 
 // Gives both a message, and prints what it got.
-fn give(both: Both, bytes: &[u8], index: u64, buffer: &mut [u8], out: &mut [u8]) -> Both {
+fn give(
+    rt: &impl Print,
+    both: Both,
+    bytes: &[u8],
+    index: u64,
+    buffer: &mut [u8],
+    out: &mut [u8],
+) -> Both {
     let BothAfter {
         both: after,
         answer,
         reply,
     } = step(both, bytes, index, buffer, out);
-    note_reply(index, bytes, answer, reply, out);
-    note(index, answer);
+    note_reply(rt, index, bytes, answer, reply, out);
+    note(rt, index, answer);
     after
 }
 
 // Gives every message of a feed to fresh sessions.
-pub fn give_all(version: u32, trace: &[u8], buffer: &mut [u8], out: &mut [u8]) -> Counts {
+pub fn give_all(
+    rt: &impl Print,
+    version: u32,
+    trace: &[u8],
+    buffer: &mut [u8],
+    out: &mut [u8],
+) -> Counts {
     let mut both = fresh(version);
     let mut given: u64 = 0;
     let mut at: usize = 0;
     while at < trace.len() {
         let end = records::end_of(trace, at, HEAD);
         if end == 0 {
-            print(b"not a record\n");
+            print(rt, b"not a record\n");
             break;
         }
         let start = at + HEAD;
-        both = give(both, &trace[start..end], given, buffer, out);
+        both = give(rt, both, &trace[start..end], given, buffer, out);
         given += 1;
         at = end;
     }

@@ -7,7 +7,10 @@
 ghost use Rattle.std.specs.Prelude.{◌≡◌, ◌<◌, ◌≤◌, length, take};
 
 use giving::Counts;
-use libc::STDOUT_FILENO;
+use std::env::{Env, FillError};
+use std::io::Read;
+use std::rt::Runtime;
+use std::{fs, str};
 
 mod binary;
 mod blocks;
@@ -19,12 +22,13 @@ mod turns;
 
 const ROOM: usize = 524_288;
 
-fn print(text: &[u8]) {
-    io::write_all(STDOUT_FILENO, text);
+// What cannot be written is left out, here and below.
+fn print(rt: &impl Print, text: &[u8]) {
+    let _ = rt.write_all(text);
 }
 
-fn print_number(n: u64) {
-    io::print_decimal(STDOUT_FILENO, n);
+fn print_number(rt: &impl Print, n: u64) {
+    let _ = rt.print(n);
 }
 
 fn digit(b: u8) -> u32 {
@@ -45,15 +49,14 @@ fn version_of(name: &[u8]) -> u32 {
     0
 }
 
-fn read_some(file: i32, room: &mut [u8]) -> usize
+fn read_some(file: &mut impl Read, room: &mut [u8]) -> usize
     ensures { result ≤ length room.old }
 {
-    let got = libc::read(file, room);
-    io::count(got, room)
+    file.read(room).unwrap_or(0)
 }
 
 // Reads until there is no more, or no more room.
-fn read_all(file: i32, room: &mut [u8]) -> usize {
+fn read_all(file: &mut impl Read, room: &mut [u8]) -> usize {
     let mut n = 0;
     while n < room.len() {
         let got = read_some(file, &mut room[n..]);
@@ -76,107 +79,138 @@ fn front(bytes: &[u8], end: usize) -> &[u8]
     }
 }
 
-fn print_counts(counts: Counts) {
+fn print_counts(rt: &impl Print, counts: Counts) {
     if counts.held != 0 {
-        print_number(counts.held as u64);
-        print(b" bytes are still held\n");
+        print_number(rt, counts.held as u64);
+        print(rt, b" bytes are still held\n");
     }
-    print_number(counts.given);
-    print(b" messages, ");
-    print_number(counts.accepted);
-    print(b" accepted\n");
+    print_number(rt, counts.given);
+    print(rt, b" messages, ");
+    print_number(rt, counts.accepted);
+    print(rt, b" accepted\n");
 }
 
 // Reads a feed into the room: how many bytes it has.
-fn read_feed(name: &[u8], room: &mut [u8]) -> usize {
-    let file = os::open_read(name);
-    if file < 0 {
-        os::fail(name);
+fn read_feed(rt: &impl Runtime, name: &[u8], room: &mut [u8]) -> usize {
+    let Ok(path) = str::from_utf8(name) else {
+        let _ = rt.eprintln("a feed whose name is not text");
         return 0;
+    };
+    match fs::open(rt, path) {
+        Ok(mut file) => read_all(&mut file, room),
+        Err(error) => {
+            let _ = eprintln!(rt; "{path}: {error}");
+            0
+        }
     }
-    let n = read_all(file, room);
-    libc::close(file);
-    n
 }
 
-fn give_feed(version: u32, trace: &[u8], buffer: &mut [u8], out: &mut [u8]) {
-    print_counts(giving::give_all(version, trace, buffer, out));
-    sums::print_sums(binary::read_all(version, trace));
+// Puts an argument at the start of a buffer: its length, or 0 where it is missing or longer than that.
+fn arg(rt: &impl Env, k: usize, buffer: &mut [u8]) -> usize {
+    rt.arg(k, buffer).unwrap_or(0)
+}
+
+// How many arguments there are, the program's own name among them.
+fn arg_count(rt: &impl Env) -> usize {
+    for k in 0..usize::MAX {
+        if let Err(FillError::NotPresent) = rt.arg(k, &mut []) {
+            return k;
+        }
+    }
+    usize::MAX
+}
+
+fn give_feed(rt: &impl Print, version: u32, trace: &[u8], buffer: &mut [u8], out: &mut [u8]) {
+    print_counts(rt, giving::give_all(rt, version, trace, buffer, out));
+    sums::print_sums(rt, binary::read_all(version, trace));
 }
 
 // A feed is read into the room; the buffer is the keeper's, and the output is for what it releases.
-fn run_feed(name: &[u8], room: &mut [u8], buffer: &mut [u8], out: &mut [u8]) {
-    print(name);
-    print(b"\n");
-    let n = read_feed(name, room);
-    give_feed(version_of(name), front(room, n), buffer, out);
+fn run_feed(rt: &impl Runtime, name: &[u8], room: &mut [u8], buffer: &mut [u8], out: &mut [u8]) {
+    print(rt, name);
+    print(rt, b"\n");
+    let n = read_feed(rt, name, room);
+    give_feed(rt, version_of(name), front(room, n), buffer, out);
 }
 
-fn run_argument(k: usize, room: &mut [u8], buffer: &mut [u8], out: &mut [u8]) {
+fn run_argument(rt: &impl Runtime, k: usize, room: &mut [u8], buffer: &mut [u8], out: &mut [u8]) {
     let mut name = [0u8; 256];
-    let n = os::arg(k, &mut name);
+    let n = arg(rt, k, &mut name);
     if n <= 256 {
-        run_feed(&name[..n], room, buffer, out);
+        run_feed(rt, &name[..n], room, buffer, out);
     }
 }
 
 // Reads the feed that an argument names into the room, from an offset on: where it ends.
-fn read_argument(k: usize, room: &mut [u8], from: usize) -> usize {
+fn read_argument(rt: &impl Runtime, k: usize, room: &mut [u8], from: usize) -> usize {
     let mut name = [0u8; 256];
-    let n = os::arg(k, &mut name);
+    let n = arg(rt, k, &mut name);
     if 256 < n {
         return from;
     }
     if room.len() < from {
         return from;
     }
-    print(b" ");
-    print(&name[..n]);
-    let size = read_feed(&name[..n], &mut room[from..]);
+    print(rt, b" ");
+    print(rt, &name[..n]);
+    let size = read_feed(rt, &name[..n], &mut room[from..]);
     std::num::wrapping_add_usize(from, size)
 }
 
 // The feeds that two arguments name are mixed, and their blocks take turns.
-fn run_turns(k: usize, room: &mut [u8], buffer: &mut [u8], out: &mut [u8]) {
-    print(b"turns of");
-    let half = read_argument(k, room, 0);
-    let end = read_argument(std::num::wrapping_add_usize(k, 1), room, half);
-    print(b"\n");
-    turns::take_turns(front(room, end), buffer, out);
+fn run_turns(rt: &impl Runtime, k: usize, room: &mut [u8], buffer: &mut [u8], out: &mut [u8]) {
+    print(rt, b"turns of");
+    let half = read_argument(rt, k, room, 0);
+    let end = read_argument(rt, std::num::wrapping_add_usize(k, 1), room, half);
+    print(rt, b"\n");
+    turns::take_turns(rt, front(room, end), buffer, out);
 }
 
-fn is_turns(k: usize) -> bool {
+fn is_turns(rt: &impl Env, k: usize) -> bool {
     let mut word = [0u8; 256];
-    let n = os::arg(k, &mut word);
-    n <= 256 && check::same(front(&word, n), b"turns")
+    let n = arg(rt, k, &mut word);
+    n <= 256 && front(&word, n) == b"turns".as_slice()
 }
 
 // Runs what begins with an argument, of which so many are left: how many that took.
-fn run_some(k: usize, left: usize, room: &mut [u8], buffer: &mut [u8], out: &mut [u8]) -> usize
+fn run_some(
+    rt: &impl Runtime,
+    k: usize,
+    left: usize,
+    room: &mut [u8],
+    buffer: &mut [u8],
+    out: &mut [u8],
+) -> usize
     requires { 0 < left }
     ensures { (0 < result) × (result ≤ left) }
 {
     if 2 < left {
-        if is_turns(k) {
-            run_turns(std::num::wrapping_add_usize(k, 1), room, buffer, out);
+        if is_turns(rt, k) {
+            run_turns(rt, std::num::wrapping_add_usize(k, 1), room, buffer, out);
             return 3;
         }
     }
-    run_argument(k, room, buffer, out);
+    run_argument(rt, k, room, buffer, out);
     1
 }
 
-fn run_arguments(count: usize, room: &mut [u8], buffer: &mut [u8], out: &mut [u8]) {
+fn run_arguments(
+    rt: &impl Runtime,
+    count: usize,
+    room: &mut [u8],
+    buffer: &mut [u8],
+    out: &mut [u8],
+) {
     let mut k: usize = 1;
     while k < count {
-        k += run_some(k, count - k, room, buffer, out);
+        k += run_some(rt, k, count - k, room, buffer, out);
     }
 }
 
-fn main() {
+fn main(rt: HostRuntime) {
     let mut room = [0u8; ROOM];
     let mut buffer = [0u8; ROOM];
     let mut out = [0u8; ROOM];
-    let count = os::arg_count();
-    run_arguments(count, &mut room, &mut buffer, &mut out);
+    let count = arg_count(&rt);
+    run_arguments(&rt, count, &mut room, &mut buffer, &mut out);
 }

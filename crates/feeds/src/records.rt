@@ -35,13 +35,13 @@ pub fn end_of(bytes: &[u8], at: usize, head: usize) -> usize
 }
 
 // How many records a keeper released.
-pub fn count(released: &[u8]) -> u64 {
+pub fn count(rt: &impl Print, released: &[u8]) -> u64 {
     let mut n: u64 = 0;
     let mut at: usize = 0;
     while at < released.len() {
         let end = end_of(released, at, KEPT);
         if end == 0 {
-            print(b"not a record\n");
+            print(rt, b"not a record\n");
             return n;
         }
         n += 1;

@@ -20,7 +20,7 @@ struct Integers {
     sum: u64,
 }
 
-#[derive(Drop)]
+#[derive(Clone, Copy)]
 pub struct Sums {
     bools: Integers,
     int2s: Integers,
@@ -153,35 +153,35 @@ pub fn with_wrong(sums: Sums) -> Sums {
     after
 }
 
-fn print_signed(bits: u64) {
+fn print_signed(rt: &impl Print, bits: u64) {
     if bits >> 63 == 1 {
-        print(b"-");
-        print_number(std::num::wrapping_sub_u64(0, bits));
+        print(rt, b"-");
+        print_number(rt, std::num::wrapping_sub_u64(0, bits));
     } else {
-        print_number(bits);
+        print_number(rt, bits);
     }
 }
 
-fn print_sum(integers: Integers, name: &[u8]) {
-    print_number(integers.count);
-    print(name);
-    print_signed(integers.sum);
-    print(b"\n");
+fn print_sum(rt: &impl Print, integers: Integers, name: &[u8]) {
+    print_number(rt, integers.count);
+    print(rt, name);
+    print_signed(rt, integers.sum);
+    print(rt, b"\n");
 }
 
-fn print_floats(floats: Floats, name: &[u8]) {
-    print_number(floats.count);
-    print(name);
-    print_number(floats.nans);
-    print(b" NaN, ");
-    print_number(floats.infinities);
-    print(b" infinite, ");
-    print_number(floats.subnormals);
-    print(b" subnormal, ");
-    print_number(floats.negatives);
-    print(b" below 0, all bits xor ");
-    print_number(floats.bits);
-    print(b"\n");
+fn print_floats(rt: &impl Print, floats: Floats, name: &[u8]) {
+    print_number(rt, floats.count);
+    print(rt, name);
+    print_number(rt, floats.nans);
+    print(rt, b" NaN, ");
+    print_number(rt, floats.infinities);
+    print(rt, b" infinite, ");
+    print_number(rt, floats.subnormals);
+    print(rt, b" subnormal, ");
+    print_number(rt, floats.negatives);
+    print(rt, b" below 0, all bits xor ");
+    print_number(rt, floats.bits);
+    print(rt, b"\n");
 }
 
 fn count(sums: Sums) -> u64 {
@@ -194,27 +194,27 @@ fn count(sums: Sums) -> u64 {
 }
 
 // Prints the sums of a feed that has any binary value.
-pub fn print_sums(sums: Sums) {
+pub fn print_sums(rt: &impl Print, sums: Sums) {
     if sums.wrong != 0 {
-        print_number(sums.wrong);
-        print(b" values were refused, or written as something else\n");
+        print_number(rt, sums.wrong);
+        print(rt, b" values were refused, or written as something else\n");
     }
     if count(sums) == 0 {
         return;
     }
-    print_number(count(sums));
-    print(b" binary values read and written back\n");
-    print_sum(sums.bools, b" bool, true: ");
-    print_sum(sums.int2s, b" int2, sum ");
-    print_sum(sums.int4s, b" int4, sum ");
-    print_sum(sums.int8s, b" int8, sum ");
-    print_floats(sums.float4s, b" float4: ");
-    print_floats(sums.float8s, b" float8: ");
-    print_sum(sums.times, b" timestamptz, sum ");
-    print(b"times from ");
-    print_signed(wire::bits64(sums.least));
-    print(b" to ");
-    print_signed(wire::bits64(sums.greatest));
-    print(b"\n");
-    print_sum(sums.raws, b" of other types, bytes ");
+    print_number(rt, count(sums));
+    print(rt, b" binary values read and written back\n");
+    print_sum(rt, sums.bools, b" bool, true: ");
+    print_sum(rt, sums.int2s, b" int2, sum ");
+    print_sum(rt, sums.int4s, b" int4, sum ");
+    print_sum(rt, sums.int8s, b" int8, sum ");
+    print_floats(rt, sums.float4s, b" float4: ");
+    print_floats(rt, sums.float8s, b" float8: ");
+    print_sum(rt, sums.times, b" timestamptz, sum ");
+    print(rt, b"times from ");
+    print_signed(rt, wire::bits64(sums.least));
+    print(rt, b" to ");
+    print_signed(rt, wire::bits64(sums.greatest));
+    print(rt, b"\n");
+    print_sum(rt, sums.raws, b" of other types, bytes ");
 }

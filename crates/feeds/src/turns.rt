@@ -196,30 +196,34 @@ fn turn_all(
     walk
 }
 
-fn print_listed(listed: Listed, in_blocks: usize, both: Both) {
-    crate::print_counts(Counts {
-        given: listed.messages as u64,
-        accepted: both.accepted,
-        held: both.held,
-    });
-    print_number(in_blocks as u64);
-    print(b" of them in ");
-    print_number(listed.blocks as u64);
-    print(b" blocks\n");
+fn print_listed(rt: &impl Print, listed: Listed, in_blocks: usize, both: Both) {
+    crate::print_counts(
+        rt,
+        Counts {
+            given: listed.messages as u64,
+            accepted: both.accepted,
+            held: both.held,
+        },
+    );
+    print_number(rt, in_blocks as u64);
+    print(rt, b" of them in ");
+    print_number(rt, listed.blocks as u64);
+    print(rt, b" blocks\n");
 }
 
-fn print_walk(walk: Walk) {
-    print_number(walk.exchanges);
-    print(b" exchanges of blocks of different transactions: ");
-    print_number(walk.others);
-    print(b" messages got something else\n");
-    print_number(walk.tries);
-    print(b" exchanges of blocks of one transaction: ");
-    print_number(walk.differences);
-    print(b" made a difference\n");
+fn print_walk(rt: &impl Print, walk: Walk) {
+    print_number(rt, walk.exchanges);
+    print(rt, b" exchanges of blocks of different transactions: ");
+    print_number(rt, walk.others);
+    print(rt, b" messages got something else\n");
+    print_number(rt, walk.tries);
+    print(rt, b" exchanges of blocks of one transaction: ");
+    print_number(rt, walk.differences);
+    print(rt, b" made a difference\n");
 }
 
 fn run_all(
+    rt: &impl Print,
     listed: Listed,
     room: &[u8],
     plan: &mut [usize],
@@ -228,12 +232,16 @@ fn run_all(
     noted: &mut [[u64; 7]],
 ) {
     let both = run(room, plan, buffer, out, noted, 0);
-    print_listed(listed, blocks::first_of(plan, listed.blocks), both);
+    print_listed(rt, listed, blocks::first_of(plan, listed.blocks), both);
     let pairs = std::num::wrapping_sub_usize(listed.blocks, 1);
-    print_walk(turn_all(times(listed), pairs, room, plan, buffer, out, noted));
+    print_walk(
+        rt,
+        turn_all(times(listed), pairs, room, plan, buffer, out, noted),
+    );
 }
 
 fn start(
+    rt: &impl Print,
     room: &[u8],
     plan: &mut [usize],
     buffer: &mut [u8],
@@ -242,16 +250,16 @@ fn start(
 ) {
     let listed = blocks::list(room, plan);
     if blocks::is_all(listed) {
-        run_all(listed, room, plan, buffer, out, noted);
+        run_all(rt, listed, room, plan, buffer, out, noted);
     } else {
-        print(b"too many messages\n");
+        print(rt, b"too many messages\n");
     }
 }
 
 // Exchanges neighbouring blocks of the feeds in the room.
-pub fn take_turns(room: &[u8], buffer: &mut [u8], out: &mut [u8]) {
+pub fn take_turns(rt: &impl Print, room: &[u8], buffer: &mut [u8], out: &mut [u8]) {
     let mut plan = [0usize; blocks::PLAN];
     let none = [0u64; 7];
     let mut noted = [none; notes::NOTES];
-    start(room, &mut plan, buffer, out, &mut noted);
+    start(rt, room, &mut plan, buffer, out, &mut noted);
 }
