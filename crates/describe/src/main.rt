@@ -8,7 +8,6 @@ ghost use Rattle.std.specs.Prelude.{◌≤◌};
 use records::{Record, Taken, Window};
 use session::{Session, Stepped};
 use std::env::{Env, FillError};
-use std::io;
 use std::io::Read;
 use summary::Counts;
 use types::{CELLS, ROWS};
@@ -51,7 +50,7 @@ fn tell_message(
     index: u64,
     marks: &[u64; ROWS],
     oids: &[u32; CELLS],
-) -> io::Result<Stepped> {
+) -> Stepped {
     let read = session::read_in(session, bytes);
     let Stepped {
         session: after,
@@ -63,20 +62,14 @@ fn tell_message(
     let at = told::put_read(line, at, read, bytes, &types);
     let at = text::put(line, at, b": ");
     let at = answers::put_answer(line, at, answer, session, read, bytes);
-    text::write_line(rt, line, at)?;
-    Ok(Stepped {
+    text::write_line(rt, line, at);
+    Stepped {
         session: after,
         answer,
-    })
+    }
 }
 
-fn tell_long(
-    rt: &impl Print,
-    line: &mut [u8],
-    letter: u8,
-    size: usize,
-    index: u64,
-) -> io::Result<()> {
+fn tell_long(rt: &impl Print, line: &mut [u8], letter: u8, size: usize, index: u64) {
     let first = [letter];
     let at = text::put_number(line, 0, b"", index);
     let at = text::put(line, at, b" ");
@@ -87,7 +80,7 @@ fn tell_long(
         at,
         b" bytes: too long to show, not given to the session",
     );
-    text::write_line(rt, line, at)
+    text::write_line(rt, line, at);
 }
 
 // Tells a record.
@@ -99,7 +92,7 @@ fn tell_record(
     before: Progress,
     marks: &mut [u64; ROWS],
     oids: &mut [u32; CELLS],
-) -> io::Result<Progress> {
+) -> Progress {
     let Progress {
         session,
         counts,
@@ -112,35 +105,35 @@ fn tell_record(
             let Stepped {
                 session: after,
                 answer,
-            } = tell_message(rt, line, session, bytes, counts.index(), marks, oids)?;
+            } = tell_message(rt, line, session, bytes, counts.index(), marks, oids);
             let read = session::read_in(session, bytes);
             let next = types::remember(marks, oids, row, read, answer, bytes, counts.index());
             let place = session::place_of(session);
             let counted = counts.with(place, answer, session::place_of(after), span.length);
-            Ok(Progress {
+            Progress {
                 session: after,
                 counts: counted,
                 row: next,
                 goes_on: true,
-            })
+            }
         }
         Record::Long { letter, size } => {
-            tell_long(rt, line, letter, size, counts.index())?;
-            Ok(Progress {
+            tell_long(rt, line, letter, size, counts.index());
+            Progress {
                 session,
                 counts: counts.with_long(size),
                 row,
                 goes_on: true,
-            })
+            }
         }
         _ => {
-            summary::tell_end(rt, line, counts, record)?;
-            Ok(Progress {
+            summary::tell_end(rt, line, counts, record);
+            Progress {
                 session,
                 counts,
                 row,
                 goes_on: false,
-            })
+            }
         }
     }
 }
@@ -151,7 +144,7 @@ fn tell_all(
     version: u32,
     room: &mut [u8],
     line: &mut [u8],
-) -> io::Result<()> {
+) {
     let mut marks = [0u64; ROWS];
     let mut oids = [0u32; CELLS];
     let mut progress = Progress {
@@ -166,15 +159,14 @@ fn tell_all(
         let Taken {
             record,
             window: after,
-        } = records::next_record(input, room, window)?;
-        progress = tell_record(rt, line, record, room, progress, &mut marks, &mut oids)?;
+        } = records::next_record(input, room, window);
+        progress = tell_record(rt, line, record, room, progress, &mut marks, &mut oids);
         if !progress.goes_on {
-            return Ok(());
+            return;
         }
         window = after;
         turns -= 1;
     }
-    Ok(())
 }
 
 // A decimal number of 32 bits.
@@ -214,17 +206,17 @@ fn read_decimal(word: &[u8]) -> Decimal {
     Decimal::Number(value as u32)
 }
 
-fn tell_usage(rt: &impl Print, line: &mut [u8], word: &[u8]) -> io::Result<()> {
+fn tell_usage(rt: &impl Print, line: &mut [u8], word: &[u8]) {
     let at = text::put_text(line, 0, b"", word);
     let at = text::put(
         line,
         at,
         b" is not a version; usage: describe [VERSION] < TRACE, with VERSION in decimal digits, 2 if left out",
     );
-    text::write_line(rt, line, at)
+    text::write_line(rt, line, at);
 }
 
-fn main(rt: HostRuntime) -> io::Result<()> {
+fn main(rt: HostRuntime) {
     let mut input = rt.stdin();
     let mut room = [0u8; ROOM];
     let mut line = [0u8; LINE];

@@ -1,9 +1,8 @@
 // Reads the records of a trace from standard input through one buffer. A record is the mark C3 4D, a length of 32 bits and a
 // message. One that is longer than the buffer is passed over.
-ghost use Rattle.std.specs.Prelude.{◌+◌, ◌<◌, ◌≤◌, length, IfOk};
+ghost use Rattle.std.specs.Prelude.{◌+◌, ◌<◌, ◌≤◌, length};
 ghost use Rattle.describe.specs.Windows.{Within};
 
-use std::io;
 use std::io::Read;
 use wire::{Cursor, Field32, Refusal, Span};
 
@@ -50,26 +49,27 @@ struct Passed {
     window: Window,
 }
 
-fn read_some(input: &mut impl Read, room: &mut [u8]) -> io::Result<usize>
-    ensures { IfOk result (λ n. n ≤ length room.old) }
+fn read_some(input: &mut impl Read, room: &mut [u8]) -> usize
+    ensures { result ≤ length room.old }
 {
-    input.read(room)
+    // A failed read is taken for the end of the input.
+    input.read(room).unwrap_or(0)
 }
 
 // Reads until there are as many bytes as needed, or no more input or room.
-fn read_until(input: &mut impl Read, room: &mut [u8], from: usize, need: usize) -> io::Result<usize>
+fn read_until(input: &mut impl Read, room: &mut [u8], from: usize, need: usize) -> usize
     requires { from ≤ length room.old }
-    ensures { IfOk result (λ n. n ≤ length room.old) }
+    ensures { result ≤ length room.old }
 {
     let mut n = from;
     while n < need {
-        let got = read_some(input, &mut room[n..])?;
+        let got = read_some(input, &mut room[n..]);
         if got == 0 {
-            return Ok(n);
+            return n;
         }
         n += got;
     }
-    Ok(n)
+    n
 }
 
 // Moves the unread bytes to the front, and gives how many there are.
@@ -88,16 +88,16 @@ fn move_down(room: &mut [u8], window: Window) -> usize
 }
 
 // Sees that as many bytes are unread as needed, unless the input ends before.
-fn fill(input: &mut impl Read, room: &mut [u8], window: Window, need: usize) -> io::Result<Window>
+fn fill(input: &mut impl Read, room: &mut [u8], window: Window, need: usize) -> Window
     requires { Within window.at window.end (length room.old) }
-    ensures { IfOk result (λ w. Within w.at w.end (length room.old)) }
+    ensures { Within result.at result.end (length room.old) }
 {
     if need <= window.end - window.at {
-        return Ok(window);
+        return window;
     }
     let kept = move_down(room, window);
-    let end = read_until(input, room, kept, need)?;
-    Ok(Window { at: 0, end })
+    let end = read_until(input, room, kept, need);
+    Window { at: 0, end }
 }
 
 fn head_of(bytes: &[u8]) -> Head {
@@ -127,44 +127,44 @@ fn head_of(bytes: &[u8]) -> Head {
 }
 
 // Reads on past so many bytes.
-fn pass_over(input: &mut impl Read, room: &mut [u8], count: usize) -> io::Result<Passed>
-    ensures { IfOk result (λ p. Within p.window.at p.window.end (length room.old)) }
+fn pass_over(input: &mut impl Read, room: &mut [u8], count: usize) -> Passed
+    ensures { Within result.window.at result.window.end (length room.old) }
 {
     let mut left = count;
     while 0 < left {
-        let got = read_some(input, room)?;
+        let got = read_some(input, room);
         if got == 0 {
-            return Ok(Passed {
+            return Passed {
                 is_whole: false,
                 window: Window { at: 0, end: 0 },
-            });
+            };
         }
         if left < got {
-            return Ok(Passed {
+            return Passed {
                 is_whole: true,
                 window: Window { at: left, end: got },
-            });
+            };
         }
         left -= got;
     }
-    Ok(Passed {
+    Passed {
         is_whole: true,
         window: Window { at: 0, end: 0 },
-    })
+    }
 }
 
 // A record whose message is longer than the room.
-fn take_long(input: &mut impl Read, room: &mut [u8], window: Window, size: u32) -> io::Result<Taken>
+fn take_long(input: &mut impl Read, room: &mut [u8], window: Window, size: u32) -> Taken
     requires { Within window.at window.end (length room.old) × (length room.old < size + 6) }
-    ensures { IfOk result (λ t. Within t.window.at t.window.end (length room.old)) }
+    ensures { Within result.window.at result.window.end (length room.old) }
 {
-    let Window { at, end } = fill(input, room, window, HEAD + 1)?;
+    let Window { at, end } = fill(input, room, window, HEAD + 1);
     let count = end - at;
     if count <= HEAD {
-        return Ok(Taken {
+        return Taken {
             record: Record::Cut,
             window: Window { at, end },
-        });
+        };
     }
     let letter = room[at + HEAD];
     let size = size as usize;
@@ -172,47 +172,42 @@ fn take_long(input: &mut impl Read, room: &mut [u8], window: Window, size: u32) 
     let Passed {
         is_whole,
         window: next,
-    } = pass_over(input, room, left)?;
+    } = pass_over(input, room, left);
     if is_whole {
-        Ok(Taken {
+        Taken {
             record: Record::Long { letter, size },
             window: next,
-        })
+        }
     } else {
-        Ok(Taken {
+        Taken {
             record: Record::Cut,
             window: next,
-        })
+        }
     }
 }
 
-fn take_message(
-    input: &mut impl Read,
-    room: &mut [u8],
-    window: Window,
-    size: u32,
-) -> io::Result<Taken>
+fn take_message(input: &mut impl Read, room: &mut [u8], window: Window, size: u32) -> Taken
     requires { Within window.at window.end (length room.old) }
-    ensures { IfOk result (λ t. Within t.window.at t.window.end (length room.old)) }
+    ensures { Within result.window.at result.window.end (length room.old) }
 {
     let length = size as usize;
     let whole = length + HEAD;
     if room.len() < whole {
         return take_long(input, room, window, size);
     }
-    let Window { at, end } = fill(input, room, window, whole)?;
+    let Window { at, end } = fill(input, room, window, whole);
     if end - at < whole {
-        return Ok(Taken {
+        return Taken {
             record: Record::Cut,
             window: Window { at, end },
-        });
+        };
     }
     let start = at + HEAD;
     let next = at + whole;
-    Ok(Taken {
+    Taken {
         record: Record::Message(Span { start, length }),
         window: Window { at: next, end },
-    })
+    }
 }
 
 // The window, or an empty one where it does not lie in the buffer.
@@ -228,23 +223,23 @@ fn within(room: &[u8], window: Window) -> Window
 }
 
 // The next record of standard input.
-pub fn next_record(input: &mut impl Read, room: &mut [u8], window: Window) -> io::Result<Taken> {
+pub fn next_record(input: &mut impl Read, room: &mut [u8], window: Window) -> Taken {
     let window = within(room, window);
-    let Window { at, end } = fill(input, room, window, HEAD)?;
+    let Window { at, end } = fill(input, room, window, HEAD);
     let filled = Window { at, end };
     match head_of(&room[at..end]) {
         Head::Size(size) => take_message(input, room, filled, size),
-        Head::Over => Ok(Taken {
+        Head::Over => Taken {
             record: Record::Over,
             window: filled,
-        }),
-        Head::BadMark => Ok(Taken {
+        },
+        Head::BadMark => Taken {
             record: Record::BadMark,
             window: filled,
-        }),
-        Head::Cut => Ok(Taken {
+        },
+        Head::Cut => Taken {
             record: Record::Cut,
             window: filled,
-        }),
+        },
     }
 }

@@ -3,7 +3,6 @@ use crate::records::{HEAD, Record};
 use crate::turns::Turns;
 use crate::{answers, text};
 use session::{Answer, Place};
-use std::io;
 
 // How many messages were given, were accepted, were refused with each number, or were too long; the bytes of their records; and the
 // blocks that may change places.
@@ -70,27 +69,26 @@ impl Counts {
     }
 }
 
-fn tell_refused(rt: &impl Print, line: &mut [u8], number: u8, count: u64) -> io::Result<()> {
+fn tell_refused(rt: &impl Print, line: &mut [u8], number: u8, count: u64) {
     if count == 0 {
-        return Ok(());
+        return;
     }
     let at = text::put_number(line, 0, b"summary: ", count);
     let at = text::put_number(line, at, b" refused ", number as u64);
     let at = text::put(line, at, b": ");
     let at = answers::put_words(line, at, number);
-    text::write_line(rt, line, at)
+    text::write_line(rt, line, at);
 }
 
-fn tell_refusals(rt: &impl Print, line: &mut [u8], counts: [u64; 14]) -> io::Result<()> {
+fn tell_refusals(rt: &impl Print, line: &mut [u8], counts: [u64; 14]) {
     let mut k: u8 = 1;
     while k < 14 {
-        tell_refused(rt, line, k, counts[k as usize])?;
+        tell_refused(rt, line, k, counts[k as usize]);
         k += 1;
     }
-    Ok(())
 }
 
-fn tell_counts(rt: &impl Print, line: &mut [u8], counts: Counts) -> io::Result<()> {
+fn tell_counts(rt: &impl Print, line: &mut [u8], counts: Counts) {
     let number_refused = std::num::wrapping_sub_u64(counts.given, counts.accepted);
     let refused = counts.refused;
     let at = text::put_count(line, 0, b"summary: ", counts.given, b" message");
@@ -98,14 +96,14 @@ fn tell_counts(rt: &impl Print, line: &mut [u8], counts: Counts) -> io::Result<(
     let at = text::put_number(line, at, b" accepted, ", number_refused);
     let at = text::put_number(line, at, b" refused; ", counts.long);
     let at = text::put(line, at, b" too long and skipped");
-    text::write_line(rt, line, at)?;
-    tell_refusals(rt, line, refused)
+    text::write_line(rt, line, at);
+    tell_refusals(rt, line, refused);
 }
 
-fn tell_turns(rt: &impl Print, line: &mut [u8], turns: Turns) -> io::Result<()> {
+fn tell_turns(rt: &impl Print, line: &mut [u8], turns: Turns) {
     let pairs = turns.pairs();
     if pairs == 0 {
-        return Ok(());
+        return;
     }
     let at = text::put_count(line, 0, b"summary: ", pairs, b" pair");
     let at = text::put(
@@ -113,24 +111,24 @@ fn tell_turns(rt: &impl Print, line: &mut [u8], turns: Turns) -> io::Result<()> 
         at,
         b" of neighbouring blocks, of different xids and all accepted, may change places: answers stay the same, and released bytes where a keeper has room for both",
     );
-    text::write_line(rt, line, at)
+    text::write_line(rt, line, at);
 }
 
-fn tell_whole(rt: &impl Print, line: &mut [u8], bytes: u64) -> io::Result<()> {
+fn tell_whole(rt: &impl Print, line: &mut [u8], bytes: u64) {
     let at = text::put_count(line, 0, b"summary: whole, ", bytes, b" byte");
-    text::write_line(rt, line, at)
+    text::write_line(rt, line, at);
 }
 
-fn tell_damage(rt: &impl Print, line: &mut [u8], offset: u64, words: &[u8]) -> io::Result<()> {
+fn tell_damage(rt: &impl Print, line: &mut [u8], offset: u64, words: &[u8]) {
     let at = text::put_number(line, 0, b"summary: damaged record at byte ", offset);
     let at = text::put(line, at, words);
-    text::write_line(rt, line, at)
+    text::write_line(rt, line, at);
 }
 
 // The summary, with how the trace ends behind the records that were counted.
-pub fn tell_end(rt: &impl Print, line: &mut [u8], counts: Counts, end: Record) -> io::Result<()> {
-    tell_counts(rt, line, counts)?;
-    tell_turns(rt, line, counts.turns)?;
+pub fn tell_end(rt: &impl Print, line: &mut [u8], counts: Counts, end: Record) {
+    tell_counts(rt, line, counts);
+    tell_turns(rt, line, counts.turns);
     match end {
         Record::BadMark => tell_damage(rt, line, counts.bytes, b": bad mark"),
         Record::Cut => tell_damage(rt, line, counts.bytes, b": cut record"),

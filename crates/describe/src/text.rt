@@ -207,8 +207,8 @@ pub fn put_shape(line: &mut [u8], at: usize, words: &[u8], identity: u8, columns
     put_count(line, at, b", ", columns as u64, b" column")
 }
 
-// Writes the line, which ends here.
-pub fn write_line(rt: &impl Print, line: &mut [u8], at: usize) -> std::io::Result<()> {
+// Writes the line, which ends here. What cannot be written is left out.
+pub fn write_line(rt: &impl Print, line: &mut [u8], at: usize) {
     let end = put_byte(line, at, b'\n');
-    rt.write_all(front(line, end))
+    let _ = rt.write_all(front(line, end));
 }
