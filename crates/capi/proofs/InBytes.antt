@@ -1,19 +1,15 @@
 -- A number in its bytes. Assumes nothing.
-use Prim.Native.Nat.{ℕ, zero, suc, ◌^◌, ◌<◌, ◌≤◌}
+use Prim.Native.Nat.{ℕ, zero, suc, ◌^◌, ◌<◌}
 use mathlib.Core.Bool.{Bool, true, false, cond}
 use mathlib.Core.Path.{◌≡◌, refl}
 use native.Mathlib.Omega.{arith}
-use borrow.Author.Tests.{lt-ltb, le-ltb, ltb-true}
+use borrow.Author.Tests.{lt-ltb, ltb-true}
 use lib.Dec.{ltb}
 use Rattle.capi.specs.Flat.{in_bytes}
 
 pub in_bytes-fits : (w n : ℕ) → n < 256 ^ w → in_bytes w n ≡ n
 unfolding in_bytes
 in_bytes-fits w n h = rw (lt-ltb n (256 ^ w) h)
-
-pub in_bytes-past : (w n : ℕ) → 256 ^ w ≤ n → in_bytes w n ≡ 0
-unfolding in_bytes
-in_bytes-past w n h = rw (le-ltb n (256 ^ w) h)
 
 some_room : (w : ℕ) → 0 < 256 ^ w
 some_room zero = omega arith

@@ -7,4 +7,3 @@ pub mod ReadFits
 pub mod TakenBack
 pub mod Settled
 pub mod Steps
-pub mod Put

@@ -2,7 +2,7 @@
 use Prim.Native.Nat.{ℕ, suc, ◌+◌, ◌^◌, ◌<◌}
 use mathlib.Core.List.{List, [], ◌∷◌}
 use mathlib.Core.Bool.{Bool, true, false, cond}
-use mathlib.Core.Option.{Option, none, some}
+use Rattle.std.specs.Prelude.{Option, None, Some}
 use mathlib.Core.Path.{◌≡◌, refl, sym, subst}
 use native.Mathlib.Omega.{arith}
 use lib.Dec.{eqb}
@@ -15,7 +15,8 @@ use Rattle.message.specs.declared.OldTuple.TheVariants.{Nothing, Key, Full}
 use Rattle.message.specs.declared.Message.{Message}
 use Rattle.message.specs.declared.Message.TheVariants as a
 use Rattle.message.specs.Layout.{Part}
-use Rattle.message.specs.Kinds.{Kind, begin, commit, origin, relation, type, insert, update, delete, truncate, message, stream_start, stream_stop, stream_commit, stream_abort, layout, numbered}
+use Rattle.message.specs.declared.kinds.Kind.{Kind}
+use Rattle.message.specs.Kinds.{begin, commit, origin, relation, type, insert, update, delete, truncate, message, stream_start, stream_stop, stream_commit, stream_abort, layout, numbered}
 use Rattle.message.specs.Messages.{message_of, old_tuple}
 use Rattle.message.specs.Encode.{kind_of_message, parts_of, old_numbers}
 use Rattle.capi.specs.Flat.{flat, in_bytes, widths, taken, parted, kind_in, message_in, same, whole}
@@ -25,7 +26,7 @@ use Rattle.capi.proofs.Fitting.{Fit, PartsFit, Fits, parts_in_bytes}
 -- THE ROW OF A MESSAGE
 
 -- the message that a flat form's numbers make
-pub made : (m : Message) → message_in (flat m) (kind_in (flat m)) ≡ some (message_of (kind_of_message m) (parts_in_bytes (layout (kind_of_message m)) (parts_of m)))
+pub made : (m : Message) → message_in (flat m) (kind_in (flat m)) ≡ Some (message_of (kind_of_message m) (parts_in_bytes (layout (kind_of_message m)) (parts_of m)))
 unfolding in_bytes numbered
 made (a.Begin m) = refl
 made (a.Commit m) = refl
@@ -35,7 +36,7 @@ made (a.«Type» m) = refl
 made (a.Insert m) = refl
 made (a.Update m) = go m.old
   where
-    go : (o : OldTuple) → (let u = a.Update (record { xid = m.xid; relation = m.relation; old = o; tuple = m.tuple }) in message_in (flat u) (kind_in (flat u)) ≡ some (message_of (kind_of_message u) (parts_in_bytes (layout (kind_of_message u)) (parts_of u))))
+    go : (o : OldTuple) → (let u = a.Update (record { xid = m.xid; relation = m.relation; old = o; tuple = m.tuple }) in message_in (flat u) (kind_in (flat u)) ≡ Some (message_of (kind_of_message u) (parts_in_bytes (layout (kind_of_message u)) (parts_of u))))
     go Nothing = refl
     go (Key start) = refl
     go (Full start) = refl
@@ -50,11 +51,11 @@ made (a.StreamAbort xid sub) = refl
 -- THE MESSAGE OF A ROW
 
 -- is whole
-pub whole_says : (ns : List ℕ) (f : Option Message) (m : Message) → whole ns f ≡ some m → (f ≡ some m) × (same 16 (flat m) ns ≡ true)
-whole_says ns none m q = let z : ◌≡◌ {A = ℕ} 0 1 = cc in absurd (omega arith)
-whole_says ns (some k) m q = go (same 16 (flat k) ns) refl q
+pub whole_says : (ns : List ℕ) (f : Option Message) (m : Message) → whole ns f ≡ Some m → (f ≡ Some m) × (same 16 (flat m) ns ≡ true)
+whole_says ns None m q = let z : ◌≡◌ {A = ℕ} 0 1 = cc in absurd (omega arith)
+whole_says ns (Some k) m q = go (same 16 (flat k) ns) refl q
   where
-    go : (t : Bool) → same 16 (flat k) ns ≡ t → cond t (some k) none ≡ some m → (some k ≡ some m) × (same 16 (flat m) ns ≡ true)
+    go : (t : Bool) → same 16 (flat k) ns ≡ t → cond t (Some k) None ≡ Some m → (Some k ≡ Some m) × (same 16 (flat m) ns ≡ true)
     go true s q = let e : k ≡ m = cc in (q, rw (sym e) s)
     go false s q = let z : ◌≡◌ {A = ℕ} 0 1 = cc in absurd (omega arith)
 
@@ -100,6 +101,6 @@ made-fits ns stream_stop = (tt, tt)
 made-fits ns stream_commit = (rw (time_bits (get_or ns 5 0)) (parted_fit ns 1 (layout stream_commit)), time-fits (get_or ns 5 0))
 made-fits ns stream_abort = (parted_fit ns 1 (layout stream_abort), tt)
 
-pub in_fits : (ns : List ℕ) (k : Option Kind) (m : Message) → message_in ns k ≡ some m → Fits m
-in_fits ns none m q = let z : ◌≡◌ {A = ℕ} 0 1 = cc in absurd (omega arith)
-in_fits ns (some k) m q = let e : message_of k (parted ns 1 (layout k)) ≡ m = cc in subst Fits e (made-fits ns k)
+pub in_fits : (ns : List ℕ) (k : Option Kind) (m : Message) → message_in ns k ≡ Some m → Fits m
+in_fits ns None m q = let z : ◌≡◌ {A = ℕ} 0 1 = cc in absurd (omega arith)
+in_fits ns (Some k) m q = let e : message_of k (parted ns 1 (layout k)) ≡ m = cc in subst Fits e (made-fits ns k)

@@ -8,17 +8,16 @@ use lib.ListN.{length, get_or}
 use mir.Syntax.{w64}
 use mir.Val.{SFits, to_z}
 use mir.ValLaws.{to_z-Fits}
-use Rattle.wire.specs.declared.Cursor.{Cursor}
-use Rattle.wire.specs.declared.Cursor.TheVariants.{At, Refused}
-use Rattle.wire.specs.declared.Field64.{Field64}
-use Rattle.wire.specs.declared.Field8.{Field8}
-use Rattle.wire.specs.declared.FieldSpan.{FieldSpan}
+use Rattle.wire.specs.declared.Span.{Span}
+use Rattle.wire.specs.Cursors.{Cursor, refuse, Taken}
+use Rattle.std.specs.Prelude.{Ok, Err}
 use Rattle.wire.specs.Numbers.{most32, most64}
 use Rattle.wire.specs.Fields.{number_field, letter_field, text_field, bytes_field, value_field, position_of}
 use Rattle.wire.proofs.Fields.{value_le}
 use Rattle.wire.proofs.Cases.{number_cases, letter_cases, text_cases, bytes_cases}
 use Rattle.message.specs.Layout.{id, number_of, Optional, optional, xid_field, tuple_end, read_fields}
-use Rattle.message.specs.Kinds.{Kind, begin, commit, origin, relation, type, insert, update, delete, truncate, message, stream_start, stream_stop, stream_commit, stream_abort, layout, key_or_old}
+use Rattle.message.specs.declared.kinds.Kind.{Kind}
+use Rattle.message.specs.Kinds.{begin, commit, origin, relation, type, insert, update, delete, truncate, message, stream_start, stream_stop, stream_commit, stream_abort, layout, key_or_old}
 use Rattle.message.specs.Messages.{largest, message_of}
 use Rattle.message.proofs.Parts.{TimeFits, kind_back, parts_back}
 use Rattle.capi.proofs.Fitting.{Fit, PartsFit, Fits}
@@ -34,21 +33,21 @@ module _ (b : Bool) (xs : List ℕ) (small : (i : ℕ) → get_or xs i 0 < 256) 
 
   letter_fit : (set : List ℕ) (c : Cursor) → Fit (1 ∷ []) ((letter_field set xs c).value ∷ [])
   unfolding letter_field
-  letter_fit set (Refused m o) = (omega arith, tt)
-  letter_fit set (At a) = letter_cases set xs a (λ (f : Field8). Fit (1 ∷ []) (f.value ∷ [])) (λ k. (omega arith, tt)) (λ h i. (small a, tt))
+  letter_fit set (Err r) = (omega arith, tt)
+  letter_fit set (Ok a) = letter_cases set xs a (λ (f : Taken ℕ). Fit (1 ∷ []) (f.value ∷ [])) (λ k. (omega arith, tt)) (λ h i. (small a, tt))
 
-  abbrev SpanFits : FieldSpan → Type 0
+  abbrev SpanFits : Taken Span → Type 0
   SpanFits f = Fit (8 ∷ 8 ∷ []) (f.value.start ∷ f.value.length ∷ [])
 
   text_fit : (c : Cursor) → SpanFits (text_field xs c)
   unfolding text_field
-  text_fit (Refused m o) = (omega arith, (omega arith, tt))
-  text_fit (At a) = text_cases xs a SpanFits (omega arith, (omega arith, tt)) (λ h. (omega arith, (omega arith, tt)))
+  text_fit (Err r) = (omega arith, (omega arith, tt))
+  text_fit (Ok a) = text_cases xs a SpanFits (omega arith, (omega arith, tt)) (λ h. (omega arith, (omega arith, tt)))
 
   bytes_fit : (n : ℕ) (c : Cursor) → SpanFits (bytes_field n xs c)
   unfolding bytes_field
-  bytes_fit n (Refused m o) = (omega arith, (omega arith, tt))
-  bytes_fit n (At a) = bytes_cases xs a SpanFits (omega arith, (omega arith, tt)) n (λ h. (omega arith, (omega arith, tt)))
+  bytes_fit n (Err r) = (omega arith, (omega arith, tt))
+  bytes_fit n (Ok a) = bytes_cases xs a SpanFits (omega arith, (omega arith, tt)) n (λ h. (omega arith, (omega arith, tt)))
 
   value_fit : (c : Cursor) → SpanFits (value_field xs c)
   unfolding value_field
@@ -65,13 +64,13 @@ module _ (b : Bool) (xs : List ℕ) (small : (i : ℕ) → get_or xs i 0 < 256) 
   -- where the next field starts
   after-number : (w low high n : ℕ) (c : Cursor) → position_of (number_field w low high n xs c).next < 256 ^ 8
   unfolding number_field
-  after-number w low high n (Refused m o) = omega arith
-  after-number w low high n (At a) = number_cases w low high n xs a (λ (f : Field64). position_of f.next < 256 ^ 8) (λ k. omega arith) (λ h. omega arith)
+  after-number w low high n (Err r) = omega arith
+  after-number w low high n (Ok a) = number_cases w low high n xs a (λ (f : Taken ℕ). position_of f.next < 256 ^ 8) (λ k. omega arith) (λ h. omega arith)
 
   after-letter : (set : List ℕ) (c : Cursor) → position_of (letter_field set xs c).next < 256 ^ 8
   unfolding letter_field
-  after-letter set (Refused m o) = omega arith
-  after-letter set (At a) = letter_cases set xs a (λ (f : Field8). position_of f.next < 256 ^ 8) (λ k. omega arith) (λ h i. omega arith)
+  after-letter set (Err r) = omega arith
+  after-letter set (Ok a) = letter_cases set xs a (λ (f : Taken ℕ). position_of f.next < 256 ^ 8) (λ k. omega arith) (λ h i. omega arith)
 
   old_fit : (c : Cursor) → (let o = optional key_or_old xs c in Fit (1 ∷ 8 ∷ []) (o.letter ∷ o.start ∷ []))
   unfolding optional
@@ -87,7 +86,7 @@ module _ (b : Bool) (xs : List ℕ) (small : (i : ℕ) → get_or xs i 0 < 256) 
 
   -- THE KINDS
 
-  parts_fit : (k : Kind) → PartsFit (layout k) (read_fields b (layout k) xs (At 1)).parts
+  parts_fit : (k : Kind) → PartsFit (layout k) (read_fields b (layout k) xs (Ok 1)).parts
   parts_fit begin = (number_fit _ _ _ _ _ (omega arith), (number_fit _ _ _ _ _ (omega arith), (number_fit _ _ _ _ _ (omega arith), tt)))
   parts_fit commit = (number_fit _ _ _ _ _ (omega arith), (number_fit _ _ _ _ _ (omega arith), (number_fit _ _ _ _ _ (omega arith), (number_fit _ _ _ _ _ (omega arith), tt))))
   parts_fit origin = (number_fit _ _ _ _ _ (omega arith), (text_fit _, tt))
@@ -106,7 +105,7 @@ module _ (b : Bool) (xs : List ℕ) (small : (i : ℕ) → get_or xs i 0 < 256) 
   time-fits : (c : Cursor) → SFits w64 (to_z w64 (number_field 8 0 most64 4 xs c).value)
   time-fits c = to_z-Fits w64 (number_field 8 0 most64 4 xs c).value (record { fits = number_small 8 0 most64 4 c (omega arith) })
 
-  times_fit : (k : Kind) → TimeFits (message_of k (read_fields b (layout k) xs (At 1)).parts)
+  times_fit : (k : Kind) → TimeFits (message_of k (read_fields b (layout k) xs (Ok 1)).parts)
   times_fit begin = time-fits _
   times_fit commit = time-fits _
   times_fit origin = tt
@@ -122,5 +121,5 @@ module _ (b : Bool) (xs : List ℕ) (small : (i : ℕ) → get_or xs i 0 < 256) 
   times_fit stream_commit = time-fits _
   times_fit stream_abort = tt
 
-  pub read_fits : (k : Kind) → Fits (message_of k (read_fields b (layout k) xs (At 1)).parts)
-  read_fits k = (rw (kind_back k (read_fields b (layout k) xs (At 1)).parts, parts_back k b xs) (parts_fit k), times_fit k)
+  pub read_fits : (k : Kind) → Fits (message_of k (read_fields b (layout k) xs (Ok 1)).parts)
+  read_fits k = (rw (kind_back k (read_fields b (layout k) xs (Ok 1)).parts, parts_back k b xs) (parts_fit k), times_fit k)

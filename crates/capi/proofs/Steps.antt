@@ -8,24 +8,20 @@ use native.Mathlib.Omega.{arith}
 use mir.Syntax.{w32}
 use mir.Val.{of_z}
 use mir.ValLaws.{of_z-to_z}
-use Rattle.wire.specs.declared.Cursor.{Cursor}
-use Rattle.wire.specs.declared.Cursor.TheVariants.{At, Refused}
+use Rattle.wire.specs.Cursors.{Cursor, refuse}
+use Rattle.std.specs.Prelude.{Option, Some, None, Result, Ok, Err}
 use Rattle.wire.specs.Numbers.{most32}
 use Rattle.wire.specs.Fields.{number_field}
 use Rattle.wire.proofs.Fields.{value_le}
 use Rattle.columns.specs.declared.Position.{Position}
 use Rattle.columns.specs.declared.Column.{Column}
-use Rattle.columns.specs.declared.Column.TheVariants as tuple
 use Rattle.columns.specs.declared.RelationColumn.{RelationColumn}
-use Rattle.columns.specs.declared.RelationColumn.TheVariants as relation
 use Rattle.columns.specs.declared.TruncatedRelation.{TruncatedRelation}
-use Rattle.columns.specs.declared.TruncatedRelation.TheVariants as oid
-use Rattle.columns.specs.declared.TupleStep.{TupleStep}
-use Rattle.columns.specs.declared.RelationStep.{RelationStep}
-use Rattle.columns.specs.declared.OidStep.{OidStep}
+use Rattle.columns.specs.declared.Step.{Step as Stepped}
+use Rattle.wire.specs.declared.Refusal.{Refusal}
 use Rattle.message.specs.Layout.{Field, Step, text, column, id, read_group}
 use Rattle.message.specs.Kinds.{column_fields, up_to, any32}
-use Rattle.columns.specs.Steps.{StepAnswer, over, gives, refused, step_at, stood, after, tuple_column, relation_column, truncated_relation, tuple_step, relation_step, oid_step}
+use Rattle.columns.specs.Steps.{StepAnswer, over, gives, refused, step_at, stood, after, item, item_step, column_of, relation_column_of, relation_of}
 use Rattle.capi.specs.Filled.{Filled, filled, padded}
 use Rattle.capi.specs.Stepping.{position_in, numbers_of, moved_by, step_numbers, moved_on}
 
@@ -45,20 +41,20 @@ moved (past ns) q ps = q.offset ∷ q.left ∷ []
 moved nothing q ps = ps
 moved (refusal n o) q ps = ps
 
-abbrev pub of_tuple : Column → Shown
-of_tuple (tuple.Value letter start length) = past (letter ∷ start ∷ length ∷ [])
-of_tuple tuple.Over = nothing
-of_tuple (tuple.Refused n o) = refusal n o
+abbrev pub of_tuple : Result (Option Column) Refusal → Shown
+of_tuple (Ok (Some c)) = past (c.letter ∷ c.value.start ∷ c.value.length ∷ [])
+of_tuple (Ok None) = nothing
+of_tuple (Err r) = refusal r.number r.offset
 
-abbrev pub of_relation : RelationColumn → Shown
-of_relation (relation.Column key name type modifier) = past (key ∷ name.start ∷ name.length ∷ type ∷ of_z w32 modifier ∷ [])
-of_relation relation.Over = nothing
-of_relation (relation.Refused n o) = refusal n o
+abbrev pub of_relation : Result (Option RelationColumn) Refusal → Shown
+of_relation (Ok (Some c)) = past (c.key ∷ c.name.start ∷ c.name.length ∷ c.type_oid ∷ of_z w32 c.modifier ∷ [])
+of_relation (Ok None) = nothing
+of_relation (Err r) = refusal r.number r.offset
 
-abbrev pub of_oid : TruncatedRelation → Shown
-of_oid (oid.Oid o) = past (o ∷ [])
-of_oid oid.Over = nothing
-of_oid (oid.Refused n o) = refusal n o
+abbrev pub of_oid : Result (Option TruncatedRelation) Refusal → Shown
+of_oid (Ok (Some r)) = past (r.oid ∷ [])
+of_oid (Ok None) = nothing
+of_oid (Err r) = refusal r.number r.offset
 
 -- the step of section n is what is shown
 abbrev pub Shows : ℕ → List ℕ → List ℕ → Shown → Position → Type 0
@@ -70,7 +66,7 @@ module _ (xs ps : List ℕ) (fs : List Field) (show : StepAnswer → Shown) wher
   p = position_in ps
 
   abbrev g : Step
-  g = read_group fs xs (At p.offset)
+  g = read_group fs xs (Ok p.offset)
 
   step-shown :
       show over ≡ nothing → ((e : ℕ) → show (gives g.values e) ≡ past g.values) → ((n o : ℕ) → show (refused n o) ≡ refusal n o)
@@ -79,30 +75,30 @@ module _ (xs ps : List ℕ) (fs : List Field) (show : StepAnswer → Shown) wher
     where
       go : (b : Bool) (c : Cursor) → (let s = cond b over (stood g.values c) in (returned (show s) ≡ numbers_of s) × (moved (show s) (after s p) ps ≡ moved_by s ps))
       go true c = rw ended (refl, refl)
-      go false (At e) = rw (passed e) (refl, refl)
-      go false (Refused n o) = rw (refusing n o) (refl, refl)
+      go false (Ok e) = rw (passed e) (refl, refl)
+      go false (Err r) = rw (refusing r.number r.offset) (refl, refl)
 
-pub tuple-shown : (xs ps : List ℕ) (r : TupleStep) (k : Column) → r ≡ tuple_step xs (position_in ps) → r.column ≡ k → Shows 0 xs ps (of_tuple k) r.next
-unfolding tuple_step step_numbers moved_on
-tuple-shown xs ps r k d e = rw (sym e, d) (step-shown xs ps (column ∷ []) (λ s. of_tuple (tuple_column s)) refl (λ e. refl) (λ n o. refl))
+pub tuple-shown : (xs ps : List ℕ) (r : Stepped Column) (k : Result (Option Column) Refusal) → r ≡ item_step (column ∷ []) column_of xs (position_in ps) → r.item ≡ k → Shows 0 xs ps (of_tuple k) r.next
+unfolding step_numbers moved_on
+tuple-shown xs ps r k d e = rw (sym e, d) (step-shown xs ps (column ∷ []) (λ s. of_tuple (item column_of s)) refl (λ e. refl) (λ n o. refl))
 
-pub relation-shown : (xs ps : List ℕ) (r : RelationStep) (k : RelationColumn) → r ≡ relation_step xs (position_in ps) → r.column ≡ k → Shows 2 xs ps (of_relation k) r.next
-unfolding relation_step step_numbers moved_on
+pub relation-shown : (xs ps : List ℕ) (r : Stepped RelationColumn) (k : Result (Option RelationColumn) Refusal) → r ≡ item_step column_fields relation_column_of xs (position_in ps) → r.item ≡ k → Shows 2 xs ps (of_relation k) r.next
+unfolding step_numbers moved_on
 relation-shown xs ps r k d e =
     rw (sym e, d)
-    (step-shown xs ps column_fields (λ s. of_relation (relation_column s)) refl
+    (step-shown xs ps column_fields (λ s. of_relation (item relation_column_of s)) refl
     (λ e. rw (of_z-to_z w32 m (record { fits = omega (arith, value_le 4 0 most32 4 xs at) })))
     (λ n o. refl))
   where
     at : Cursor
-    at = (read_group (up_to 1 ∷ text ∷ any32 ∷ []) xs (At (position_in ps).offset)).next
+    at = (read_group (up_to 1 ∷ text ∷ any32 ∷ []) xs (Ok (position_in ps).offset)).next
 
     m : ℕ
     m = (number_field 4 0 most32 4 xs at).value
 
-pub oid-shown : (xs ps : List ℕ) (r : OidStep) (k : TruncatedRelation) → r ≡ oid_step xs (position_in ps) → r.relation ≡ k → Shows 3 xs ps (of_oid k) r.next
-unfolding oid_step step_numbers moved_on
-oid-shown xs ps r k d e = rw (sym e, d) (step-shown xs ps (id ∷ []) (λ s. of_oid (truncated_relation s)) refl (λ e. refl) (λ n o. refl))
+pub oid-shown : (xs ps : List ℕ) (r : Stepped TruncatedRelation) (k : Result (Option TruncatedRelation) Refusal) → r ≡ item_step (id ∷ []) relation_of xs (position_in ps) → r.item ≡ k → Shows 3 xs ps (of_oid k) r.next
+unfolding step_numbers moved_on
+oid-shown xs ps r k d e = rw (sym e, d) (step-shown xs ps (id ∷ []) (λ s. of_oid (item relation_of s)) refl (λ e. refl) (λ n o. refl))
 
 -- an old tuple is stepped through as a new one
 pub tuple_either : (n : ℕ) (xs ps : List ℕ) → n < 2 → (step_numbers 0 xs ps ≡ step_numbers n xs ps) × (moved_on 0 xs ps ≡ moved_on n xs ps)

@@ -5,7 +5,7 @@ use mathlib.Core.Path.{◌≡◌, sym, ◌∙◌, subst}
 use borrow.Author.Tests.{le-leb}
 use lib.ListN.{length, get_or, drop}
 use Rattle.message.specs.declared.Message.{Message}
-use Rattle.message.specs.declared.Read.TheVariants as answer
+use Rattle.std.specs.Prelude.{Ok, Err}
 use Rattle.message.specs.Write.{bytes}
 use Rattle.message.proofs.Accepted.{accepted}
 use Rattle.message.proofs.RoundTrip.{write_after_read}
@@ -17,7 +17,7 @@ use Rattle.capi.proofs.FlatForm.{unflat-flat}
 use Rattle.capi.proofs.ReadFits.{read_fits}
 
 -- bytes that are read as a message
-module _ (version in_block : ℕ) (xs : List ℕ) (small : (i : ℕ) → get_or xs i 0 < 256) (m : Message) (given : read_flat version in_block xs ≡ answer.Message m) where
+module _ (version in_block : ℕ) (xs : List ℕ) (small : (i : ℕ) → get_or xs i 0 < 256) (m : Message) (given : read_flat version in_block xs ≡ Ok m) where
   fits : Fits m
   fits =
       let a = accepted (record { number = version }) (inside in_block) xs m given in

@@ -1,13 +1,11 @@
 -- To be believed (for C). The flat form of a message: a row of 16 numbers. What reading answers as a row, and the message whose flat form a row is.
-use Rattle.std.specs.Prelude.{ℕ, zero, suc, ◌+◌, ◌^◌, List, [], ◌∷◌, ◌++◌, Bool, true, cond, ◌&&◌, eqb, ltb, get_or, length}
-use Rattle.std.proofs.Math.Option.{Option, none, some}
+use Rattle.std.specs.Prelude.{ℕ, zero, suc, ◌+◌, ◌^◌, List, [], ◌∷◌, ◌++◌, Bool, true, cond, ◌&&◌, eqb, ltb, get_or, length, Ok, Err, Option, None, Some}
 use Rattle.message.specs.declared.Message.{Message}
 use Rattle.message.specs.declared.Version.{Version}
-use Rattle.message.specs.declared.Read.{Read}
-use Rattle.message.specs.declared.Read.TheVariants as answer
+use Rattle.message.specs.Messages.{Read, message_of, read_message}
 use Rattle.message.specs.Layout.{Field, Part, number, constant, letter, text, value, column, one, block_xid, groups, tuple, optional_tuple}
-use Rattle.message.specs.Kinds.{Kind, kind_number, kind_numbered, layout}
-use Rattle.message.specs.Messages.{message_of, read_message}
+use Rattle.message.specs.declared.kinds.Kind.{Kind}
+use Rattle.message.specs.Kinds.{kind_number, kind_numbered, layout}
 use Rattle.message.specs.Encode.{kind_of_message, parts_of}
 use Rattle.message.specs.Write.{Writing, refused, write_message}
 use Rattle.capi.specs.Filled.{padded, inside}
@@ -24,7 +22,7 @@ joined (ns ∷ rest) = ns ++ joined rest
 
 -- the kind's number, and the numbers of the parts of its layout
 abbrev pub flat : Message → List ℕ
-flat m = row (kind_number (some (kind_of_message m)) ∷ joined (parts_of m))
+flat m = row (kind_number (Some (kind_of_message m)) ∷ joined (parts_of m))
 
 -- THE MESSAGE OF A ROW
 
@@ -67,8 +65,8 @@ kind_in ns = kind_numbered (in_bytes 1 (get_or ns 0 0))
 
 -- the message of a kind that a row's numbers make
 abbrev pub message_in : List ℕ → Option Kind → Option Message
-message_in ns none = none
-message_in ns (some k) = some (message_of k (parted ns 1 (layout k)))
+message_in ns None = None
+message_in ns (Some k) = Some (message_of k (parted ns 1 (layout k)))
 
 -- whether the first n numbers are the same
 unfoldable pub same : ℕ → List ℕ → List ℕ → Bool
@@ -77,8 +75,8 @@ same (suc n) a b = eqb (get_or a n 0) (get_or b n 0) && same n a b
 
 -- a message, where the row is its flat form
 abbrev pub whole : List ℕ → Option Message → Option Message
-whole ns none = none
-whole ns (some m) = cond (same 16 (flat m) ns) (some m) none
+whole ns None = None
+whole ns (Some m) = cond (same 16 (flat m) ns) (Some m) None
 
 -- the message whose flat form a row of 16 numbers is
 abbrev pub unflat : List ℕ → Option Message
@@ -92,20 +90,20 @@ read_flat version in_block xs = read_message (record { number = version }) (insi
 
 -- the number that is returned: 0, or a refusal's
 abbrev pub read_number : Read → ℕ
-read_number (answer.Message m) = 0
-read_number (answer.Refused r) = r.number
+read_number (Ok m) = 0
+read_number (Err r) = r.number
 
 -- the row: the flat form, or a refusal's offset
 abbrev pub read_row : Read → List ℕ
-read_row (answer.Message m) = flat m
-read_row (answer.Refused r) = row (r.offset ∷ [])
+read_row (Ok m) = flat m
+read_row (Err r) = row (r.offset ∷ [])
 
 -- WRITING
 
 -- what writing the message of a row gives: one that is no message's is refused before all else
 abbrev pub write_found : Version → Bool → Option Message → List ℕ → Writing
-write_found v b none src = refused 4 0
-write_found v b (some m) src = write_message v b m src
+write_found v b None src = refused 4 0
+write_found v b (Some m) src = write_message v b m src
 
 abbrev pub write_flat : (version in_block : ℕ) → (row source : List ℕ) → Writing
 write_flat version in_block ns src = write_found (record { number = version }) (inside in_block) (unflat ns) src

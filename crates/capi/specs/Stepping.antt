@@ -1,12 +1,9 @@
 -- To be believed (for C). Stepping in numbers: what `kq_column_start` and `kq_column_step` return and fill in.
-use Rattle.std.specs.Prelude.{ℕ, List, [], ◌∷◌, cond, eqb, get_or}
-use Rattle.std.proofs.Math.Option.{Option, none, some}
-use Rattle.message.specs.declared.Read.{Read}
+use Rattle.std.specs.Prelude.{ℕ, List, [], ◌∷◌, cond, eqb, get_or, Option, None, Some, Ok, Err}
+use Rattle.message.specs.Messages.{Read}
 use Rattle.columns.specs.declared.Position.{Position}
-use Rattle.columns.specs.declared.Started.{Started}
-use Rattle.columns.specs.declared.Started.TheVariants as started
 use Rattle.columns.specs.declared.Which.TheVariants.{Old, New}
-use Rattle.columns.specs.Starts.{absent}
+use Rattle.columns.specs.Starts.{Started, absent}
 use Rattle.columns.specs.Steps.{StepAnswer, over, gives, refused, step_at, after}
 use Rattle.columns.specs.Visits.{Section, tuple, columns, oids, fields_of, start_of}
 use Rattle.capi.specs.Filled.{Filled, filled, padded}
@@ -14,19 +11,19 @@ use Rattle.capi.specs.Filled.{Filled, filled, padded}
 -- the section that has a number
 abbrev pub section_of : ℕ → Option Section
 section_of n =
-    cond (eqb n 0) (some (tuple New)) (cond (eqb n 1) (some (tuple Old)) (cond (eqb n 2) (some columns) (cond (eqb n 3) (some oids) none)))
+    cond (eqb n 0) (Some (tuple New)) (cond (eqb n 1) (Some (tuple Old)) (cond (eqb n 2) (Some columns) (cond (eqb n 3) (Some oids) None)))
 
 -- START
 
 -- a number that is no section: 4 at 0
 abbrev pub section_start : Option Section → List ℕ → Read → Started
-section_start none xs r = absent
-section_start (some s) xs r = start_of s xs r
+section_start None xs r = absent
+section_start (Some s) xs r = start_of s xs r
 
 -- 0, the first offset and how many are left; or a refusal, its offset and 0
 abbrev pub start_numbers : Started → Filled
-start_numbers (started.At p) = filled 0 (p.offset ∷ p.left ∷ [])
-start_numbers (started.Refused r) = filled r.number (r.offset ∷ 0 ∷ [])
+start_numbers (Ok p) = filled 0 (p.offset ∷ p.left ∷ [])
+start_numbers (Err r) = filled r.number (r.offset ∷ 0 ∷ [])
 
 -- A STEP
 
@@ -36,8 +33,8 @@ position_in ps = record { offset = get_or ps 0 0; left = get_or ps 1 0 }
 
 -- what stands at a position; a number that is no section: 4 at 0
 abbrev pub standing : Option Section → List ℕ → Position → StepAnswer
-standing none xs p = refused 4 0
-standing (some s) xs p = step_at (fields_of s) xs p
+standing None xs p = refused 4 0
+standing (Some s) xs p = step_at (fields_of s) xs p
 
 -- 0 and the numbers of what was stepped past; 255 where none are left; or a refusal and its offset; and zeros behind
 abbrev pub numbers_of : StepAnswer → Filled

@@ -1,20 +1,21 @@
-// The flat form of a message: a row of 16 numbers.
+// The flat form of a message: a row of 16 numbers. Each kind has a function of its own, since kinds differ in their fields, and so that
+// no message passes through the enum of all kinds (speed).
 ghost use Rattle.std.specs.Prelude.{◌≡◌};
 ghost use Rattle.message.specs.declared.Message.TheVariants as a;
 ghost use Rattle.capi.specs.Flat.{flat};
 
 use message::{
-    Begin, Commit, Delete, Insert, LogicalMessage, Message, OldTuple, Origin, Relation,
-    StreamCommit, Truncate, Type, Update, kind,
+    Begin, Commit, Delete, Insert, Kind, LogicalMessage, Message, OldTuple, Origin, Relation,
+    StreamCommit, Truncate, Type, Update,
 };
 
 pub fn flatten_begin(out: &mut [u64; 16], m: Begin)
     ensures { out.new ≡ flat (a.Begin m) }
 {
     *out = [0; 16];
-    out[0] = kind::BEGIN as u64;
+    out[0] = Kind::Begin.number() as u64;
     out[1] = m.final_lsn;
-    out[2] = wire::bits64(m.time);
+    out[2] = m.time.cast_unsigned();
     out[3] = m.xid as u64;
 }
 
@@ -22,18 +23,18 @@ pub fn flatten_commit(out: &mut [u64; 16], m: Commit)
     ensures { out.new ≡ flat (a.Commit m) }
 {
     *out = [0; 16];
-    out[0] = kind::COMMIT as u64;
+    out[0] = Kind::Commit.number() as u64;
     out[1] = m.flags as u64;
     out[2] = m.commit_lsn;
     out[3] = m.end_lsn;
-    out[4] = wire::bits64(m.time);
+    out[4] = m.time.cast_unsigned();
 }
 
 pub fn flatten_origin(out: &mut [u64; 16], m: Origin)
     ensures { out.new ≡ flat (a.Origin m) }
 {
     *out = [0; 16];
-    out[0] = kind::ORIGIN as u64;
+    out[0] = Kind::Origin.number() as u64;
     out[1] = m.lsn;
     out[2] = m.name.start as u64;
     out[3] = m.name.length as u64;
@@ -43,7 +44,7 @@ pub fn flatten_relation(out: &mut [u64; 16], m: Relation)
     ensures { out.new ≡ flat (a.Relation m) }
 {
     *out = [0; 16];
-    out[0] = kind::RELATION as u64;
+    out[0] = Kind::Relation.number() as u64;
     out[1] = m.xid as u64;
     out[2] = m.relation as u64;
     out[3] = m.namespace.start as u64;
@@ -59,7 +60,7 @@ pub fn flatten_type(out: &mut [u64; 16], m: Type)
     ensures { out.new ≡ flat (a.«Type» m) }
 {
     *out = [0; 16];
-    out[0] = kind::TYPE as u64;
+    out[0] = Kind::Type.number() as u64;
     out[1] = m.xid as u64;
     out[2] = m.oid as u64;
     out[3] = m.namespace.start as u64;
@@ -72,7 +73,7 @@ pub fn flatten_insert(out: &mut [u64; 16], m: Insert)
     ensures { out.new ≡ flat (a.Insert m) }
 {
     *out = [0; 16];
-    out[0] = kind::INSERT as u64;
+    out[0] = Kind::Insert.number() as u64;
     out[1] = m.xid as u64;
     out[2] = m.relation as u64;
     out[3] = m.tuple as u64;
@@ -88,7 +89,7 @@ pub fn flatten_update(out: &mut [u64; 16], m: Update)
         tuple,
     } = m;
     *out = [0; 16];
-    out[0] = kind::UPDATE as u64;
+    out[0] = Kind::Update.number() as u64;
     out[1] = xid as u64;
     out[2] = relation as u64;
     out[5] = tuple as u64;
@@ -109,7 +110,7 @@ pub fn flatten_delete(out: &mut [u64; 16], m: Delete)
     ensures { out.new ≡ flat (a.Delete m) }
 {
     *out = [0; 16];
-    out[0] = kind::DELETE as u64;
+    out[0] = Kind::Delete.number() as u64;
     out[1] = m.xid as u64;
     out[2] = m.relation as u64;
     out[3] = m.image as u64;
@@ -120,7 +121,7 @@ pub fn flatten_truncate(out: &mut [u64; 16], m: Truncate)
     ensures { out.new ≡ flat (a.Truncate m) }
 {
     *out = [0; 16];
-    out[0] = kind::TRUNCATE as u64;
+    out[0] = Kind::Truncate.number() as u64;
     out[1] = m.xid as u64;
     out[2] = m.count as u64;
     out[3] = m.options as u64;
@@ -131,7 +132,7 @@ pub fn flatten_logical_message(out: &mut [u64; 16], m: LogicalMessage)
     ensures { out.new ≡ flat (a.Message m) }
 {
     *out = [0; 16];
-    out[0] = kind::MESSAGE as u64;
+    out[0] = Kind::Message.number() as u64;
     out[1] = m.xid as u64;
     out[2] = m.flags as u64;
     out[3] = m.lsn;
@@ -145,7 +146,7 @@ pub fn flatten_stream_start(out: &mut [u64; 16], xid: u32, first: u8)
     ensures { out.new ≡ flat (a.StreamStart xid first) }
 {
     *out = [0; 16];
-    out[0] = kind::STREAM_START as u64;
+    out[0] = Kind::StreamStart.number() as u64;
     out[1] = xid as u64;
     out[2] = first as u64;
 }
@@ -154,26 +155,26 @@ pub fn flatten_stream_stop(out: &mut [u64; 16])
     ensures { out.new ≡ flat a.StreamStop }
 {
     *out = [0; 16];
-    out[0] = kind::STREAM_STOP as u64;
+    out[0] = Kind::StreamStop.number() as u64;
 }
 
 pub fn flatten_stream_commit(out: &mut [u64; 16], m: StreamCommit)
     ensures { out.new ≡ flat (a.StreamCommit m) }
 {
     *out = [0; 16];
-    out[0] = kind::STREAM_COMMIT as u64;
+    out[0] = Kind::StreamCommit.number() as u64;
     out[1] = m.xid as u64;
     out[2] = m.flags as u64;
     out[3] = m.commit_lsn;
     out[4] = m.end_lsn;
-    out[5] = wire::bits64(m.time);
+    out[5] = m.time.cast_unsigned();
 }
 
 pub fn flatten_stream_abort(out: &mut [u64; 16], xid: u32, sub_xid: u32)
     ensures { out.new ≡ flat (a.StreamAbort xid sub_xid) }
 {
     *out = [0; 16];
-    out[0] = kind::STREAM_ABORT as u64;
+    out[0] = Kind::StreamAbort.number() as u64;
     out[1] = xid as u64;
     out[2] = sub_xid as u64;
 }

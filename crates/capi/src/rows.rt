@@ -1,64 +1,41 @@
-// Writing the message whose flat form a row of 16 numbers is.
-ghost use Rattle.std.specs.Prelude.{ℕ, ◌≡◌, List};
-ghost use Rattle.std.proofs.Math.Option.{some};
+// Writing the message whose flat form a row of 16 numbers is: a function for each kind, as in `flat`.
+ghost use Rattle.std.specs.Prelude.{ℕ, ◌≡◌, List, Some};
 ghost use Rattle.message.specs.Kinds.{begin, commit, origin, relation, type, insert, update, delete, truncate, message, stream_start, stream_stop, stream_commit, stream_abort};
 ghost use Rattle.message.specs.Messages.{old_tuple};
-ghost use Rattle.writer.specs.Answer.{Settles, refusal};
+ghost use Rattle.wire.specs.Cursors.{refuse};
+ghost use Rattle.writer.specs.Answer.{Settles};
 ghost use Rattle.capi.specs.Flat.{in_bytes, message_in, same, whole, unflat, write_found};
 
 use crate::flat;
 use message::{
-    Begin, Commit, Delete, Insert, LogicalMessage, OldTuple, Origin, Relation, StreamCommit,
-    Truncate, Type, Update, Version, kind,
+    Begin, Commit, Delete, Insert, Kind, LogicalMessage, OldTuple, Origin, Relation, StreamCommit,
+    Truncate, Type, Update, Version,
 };
-use wire::{Refusal, Span};
-use writer::Written;
+use std::convert::TryFrom;
+use wire::{Number, Refusal, Span};
 
 // A number that fits, else 0.
-fn byte(n: u64) -> u8
-    ensures { result ≡ in_bytes 1 n }
+#[tactic(auto, unfolding(crate::specs::Flat::in_bytes))]
+fn fitting<N: Number>(n: u64) -> N
+    ensures { result ≡ N.of (in_bytes N.WIDTH n) }
 {
-    if n <= 0xFF { n as u8 } else { 0 }
-}
-
-fn half(n: u64) -> u16
-    ensures { result ≡ in_bytes 2 n }
-{
-    if n <= 0xFFFF { n as u16 } else { 0 }
-}
-
-fn word(n: u64) -> u32
-    ensures { result ≡ in_bytes 4 n }
-{
-    if n <= 0xFFFF_FFFF { n as u32 } else { 0 }
-}
-
-fn long(n: u64) -> u64
-    ensures { result ≡ in_bytes 8 n }
-{
-    n
-}
-
-fn offset(n: u64) -> usize
-    ensures { result ≡ in_bytes 8 n }
-{
-    n as usize
+    N::fitting(n)
 }
 
 fn span(start: u64, length: u64) -> Span
     ensures { result ≡ record { start = in_bytes 8 start; length = in_bytes 8 length } }
 {
     Span {
-        start: offset(start),
-        length: offset(length),
+        start: fitting(start),
+        length: fitting(length),
     }
 }
 
 fn old_tuple(letter: u64, start: u64) -> OldTuple
     ensures { result ≡ old_tuple (in_bytes 1 letter) (in_bytes 8 start) }
 {
-    let start = offset(start);
-    match byte(letter) {
+    let start: usize = fitting(start);
+    match fitting::<u8>(letter) {
         b'K' => OldTuple::Key(start),
         b'O' => OldTuple::Full(start),
         _ => OldTuple::Nothing,
@@ -70,9 +47,7 @@ fn same_row(a: &[u64; 16], b: &[u64; 16]) -> bool
     ensures { result ≡ same 16 a.now b.now }
 {
     let mut same = true;
-    let mut k: usize = 16;
-    while 0 < k {
-        k -= 1;
+    for k in (0..16).rev() {
         if a[k] != b[k] {
             same = false;
         }
@@ -80,21 +55,26 @@ fn same_row(a: &[u64; 16], b: &[u64; 16]) -> bool
     same
 }
 
-fn refused(number: u8) -> Written
-    ensures { result ≡ refusal number 0 }
+fn refused(number: u8) -> Result<usize, Refusal>
+    ensures { result ≡ refuse number 0 }
 {
-    Written::Refused(Refusal { number, offset: 0 })
+    Err(Refusal { number, offset: 0 })
 }
 
 // THE KINDS. Where a number is too big for its field, it is 0 in the message, whose flat form is not the row.
 
-fn write_begin(version: Version, in_block: bool, row: &[u64; 16], out: &mut [u8]) -> Written
-    ensures { (src : List ℕ) → Settles (write_found version in_block (whole row.now (message_in row.now (some begin))) src) out.old result out.new }
+fn write_begin(
+    version: Version,
+    in_block: bool,
+    row: &[u64; 16],
+    out: &mut [u8],
+) -> Result<usize, Refusal>
+    ensures { (src : List ℕ) → Settles (write_found version in_block (whole row.now (message_in row.now (Some begin))) src) out.old result out.new }
 {
     let m = Begin {
-        final_lsn: long(row[1]),
-        time: wire::signed64(long(row[2])),
-        xid: word(row[3]),
+        final_lsn: fitting(row[1]),
+        time: fitting::<u64>(row[2]).cast_signed(),
+        xid: fitting(row[3]),
     };
     let mut again = [0; 16];
     flat::flatten_begin(&mut again, m);
@@ -105,14 +85,19 @@ fn write_begin(version: Version, in_block: bool, row: &[u64; 16], out: &mut [u8]
     }
 }
 
-fn write_commit(version: Version, in_block: bool, row: &[u64; 16], out: &mut [u8]) -> Written
-    ensures { (src : List ℕ) → Settles (write_found version in_block (whole row.now (message_in row.now (some commit))) src) out.old result out.new }
+fn write_commit(
+    version: Version,
+    in_block: bool,
+    row: &[u64; 16],
+    out: &mut [u8],
+) -> Result<usize, Refusal>
+    ensures { (src : List ℕ) → Settles (write_found version in_block (whole row.now (message_in row.now (Some commit))) src) out.old result out.new }
 {
     let m = Commit {
-        flags: byte(row[1]),
-        commit_lsn: long(row[2]),
-        end_lsn: long(row[3]),
-        time: wire::signed64(long(row[4])),
+        flags: fitting(row[1]),
+        commit_lsn: fitting(row[2]),
+        end_lsn: fitting(row[3]),
+        time: fitting::<u64>(row[4]).cast_signed(),
     };
     let mut again = [0; 16];
     flat::flatten_commit(&mut again, m);
@@ -129,11 +114,11 @@ fn write_origin(
     row: &[u64; 16],
     source: &[u8],
     out: &mut [u8],
-) -> Written
-    ensures { Settles (write_found version in_block (whole row.now (message_in row.now (some origin))) source.now) out.old result out.new }
+) -> Result<usize, Refusal>
+    ensures { Settles (write_found version in_block (whole row.now (message_in row.now (Some origin))) source.now) out.old result out.new }
 {
     let m = Origin {
-        lsn: long(row[1]),
+        lsn: fitting(row[1]),
         name: span(row[2], row[3]),
     };
     let mut again = [0; 16];
@@ -151,17 +136,17 @@ fn write_relation(
     row: &[u64; 16],
     source: &[u8],
     out: &mut [u8],
-) -> Written
-    ensures { Settles (write_found version in_block (whole row.now (message_in row.now (some relation))) source.now) out.old result out.new }
+) -> Result<usize, Refusal>
+    ensures { Settles (write_found version in_block (whole row.now (message_in row.now (Some relation))) source.now) out.old result out.new }
 {
     let m = Relation {
-        xid: word(row[1]),
-        relation: word(row[2]),
+        xid: fitting(row[1]),
+        relation: fitting(row[2]),
         namespace: span(row[3], row[4]),
         name: span(row[5], row[6]),
-        identity: byte(row[7]),
-        count: half(row[8]),
-        columns: offset(row[9]),
+        identity: fitting(row[7]),
+        count: fitting(row[8]),
+        columns: fitting(row[9]),
     };
     let mut again = [0; 16];
     flat::flatten_relation(&mut again, m);
@@ -178,12 +163,12 @@ fn write_type(
     row: &[u64; 16],
     source: &[u8],
     out: &mut [u8],
-) -> Written
-    ensures { Settles (write_found version in_block (whole row.now (message_in row.now (some type))) source.now) out.old result out.new }
+) -> Result<usize, Refusal>
+    ensures { Settles (write_found version in_block (whole row.now (message_in row.now (Some type))) source.now) out.old result out.new }
 {
     let m = Type {
-        xid: word(row[1]),
-        oid: word(row[2]),
+        xid: fitting(row[1]),
+        oid: fitting(row[2]),
         namespace: span(row[3], row[4]),
         name: span(row[5], row[6]),
     };
@@ -202,13 +187,13 @@ fn write_insert(
     row: &[u64; 16],
     source: &[u8],
     out: &mut [u8],
-) -> Written
-    ensures { Settles (write_found version in_block (whole row.now (message_in row.now (some insert))) source.now) out.old result out.new }
+) -> Result<usize, Refusal>
+    ensures { Settles (write_found version in_block (whole row.now (message_in row.now (Some insert))) source.now) out.old result out.new }
 {
     let m = Insert {
-        xid: word(row[1]),
-        relation: word(row[2]),
-        tuple: offset(row[3]),
+        xid: fitting(row[1]),
+        relation: fitting(row[2]),
+        tuple: fitting(row[3]),
     };
     let mut again = [0; 16];
     flat::flatten_insert(&mut again, m);
@@ -225,14 +210,14 @@ fn write_update(
     row: &[u64; 16],
     source: &[u8],
     out: &mut [u8],
-) -> Written
-    ensures { Settles (write_found version in_block (whole row.now (message_in row.now (some update))) source.now) out.old result out.new }
+) -> Result<usize, Refusal>
+    ensures { Settles (write_found version in_block (whole row.now (message_in row.now (Some update))) source.now) out.old result out.new }
 {
     let m = Update {
-        xid: word(row[1]),
-        relation: word(row[2]),
+        xid: fitting(row[1]),
+        relation: fitting(row[2]),
         old: old_tuple(row[3], row[4]),
-        tuple: offset(row[5]),
+        tuple: fitting(row[5]),
     };
     let mut again = [0; 16];
     flat::flatten_update(&mut again, m);
@@ -249,14 +234,14 @@ fn write_delete(
     row: &[u64; 16],
     source: &[u8],
     out: &mut [u8],
-) -> Written
-    ensures { Settles (write_found version in_block (whole row.now (message_in row.now (some delete))) source.now) out.old result out.new }
+) -> Result<usize, Refusal>
+    ensures { Settles (write_found version in_block (whole row.now (message_in row.now (Some delete))) source.now) out.old result out.new }
 {
     let m = Delete {
-        xid: word(row[1]),
-        relation: word(row[2]),
-        image: byte(row[3]),
-        tuple: offset(row[4]),
+        xid: fitting(row[1]),
+        relation: fitting(row[2]),
+        image: fitting(row[3]),
+        tuple: fitting(row[4]),
     };
     let mut again = [0; 16];
     flat::flatten_delete(&mut again, m);
@@ -273,14 +258,14 @@ fn write_truncate(
     row: &[u64; 16],
     source: &[u8],
     out: &mut [u8],
-) -> Written
-    ensures { Settles (write_found version in_block (whole row.now (message_in row.now (some truncate))) source.now) out.old result out.new }
+) -> Result<usize, Refusal>
+    ensures { Settles (write_found version in_block (whole row.now (message_in row.now (Some truncate))) source.now) out.old result out.new }
 {
     let m = Truncate {
-        xid: word(row[1]),
-        count: word(row[2]),
-        options: byte(row[3]),
-        relations: offset(row[4]),
+        xid: fitting(row[1]),
+        count: fitting(row[2]),
+        options: fitting(row[3]),
+        relations: fitting(row[4]),
     };
     let mut again = [0; 16];
     flat::flatten_truncate(&mut again, m);
@@ -297,13 +282,13 @@ fn write_logical_message(
     row: &[u64; 16],
     source: &[u8],
     out: &mut [u8],
-) -> Written
-    ensures { Settles (write_found version in_block (whole row.now (message_in row.now (some message))) source.now) out.old result out.new }
+) -> Result<usize, Refusal>
+    ensures { Settles (write_found version in_block (whole row.now (message_in row.now (Some message))) source.now) out.old result out.new }
 {
     let m = LogicalMessage {
-        xid: word(row[1]),
-        flags: byte(row[2]),
-        lsn: long(row[3]),
+        xid: fitting(row[1]),
+        flags: fitting(row[2]),
+        lsn: fitting(row[3]),
         prefix: span(row[4], row[5]),
         content: span(row[6], row[7]),
     };
@@ -316,11 +301,16 @@ fn write_logical_message(
     }
 }
 
-fn write_stream_start(version: Version, in_block: bool, row: &[u64; 16], out: &mut [u8]) -> Written
-    ensures { (src : List ℕ) → Settles (write_found version in_block (whole row.now (message_in row.now (some stream_start))) src) out.old result out.new }
+fn write_stream_start(
+    version: Version,
+    in_block: bool,
+    row: &[u64; 16],
+    out: &mut [u8],
+) -> Result<usize, Refusal>
+    ensures { (src : List ℕ) → Settles (write_found version in_block (whole row.now (message_in row.now (Some stream_start))) src) out.old result out.new }
 {
-    let xid = word(row[1]);
-    let first = byte(row[2]);
+    let xid: u32 = fitting(row[1]);
+    let first: u8 = fitting(row[2]);
     let mut again = [0; 16];
     flat::flatten_stream_start(&mut again, xid, first);
     if same_row(&again, row) {
@@ -330,8 +320,13 @@ fn write_stream_start(version: Version, in_block: bool, row: &[u64; 16], out: &m
     }
 }
 
-fn write_stream_stop(version: Version, in_block: bool, row: &[u64; 16], out: &mut [u8]) -> Written
-    ensures { (src : List ℕ) → Settles (write_found version in_block (whole row.now (message_in row.now (some stream_stop))) src) out.old result out.new }
+fn write_stream_stop(
+    version: Version,
+    in_block: bool,
+    row: &[u64; 16],
+    out: &mut [u8],
+) -> Result<usize, Refusal>
+    ensures { (src : List ℕ) → Settles (write_found version in_block (whole row.now (message_in row.now (Some stream_stop))) src) out.old result out.new }
 {
     let mut again = [0; 16];
     flat::flatten_stream_stop(&mut again);
@@ -342,15 +337,20 @@ fn write_stream_stop(version: Version, in_block: bool, row: &[u64; 16], out: &mu
     }
 }
 
-fn write_stream_commit(version: Version, in_block: bool, row: &[u64; 16], out: &mut [u8]) -> Written
-    ensures { (src : List ℕ) → Settles (write_found version in_block (whole row.now (message_in row.now (some stream_commit))) src) out.old result out.new }
+fn write_stream_commit(
+    version: Version,
+    in_block: bool,
+    row: &[u64; 16],
+    out: &mut [u8],
+) -> Result<usize, Refusal>
+    ensures { (src : List ℕ) → Settles (write_found version in_block (whole row.now (message_in row.now (Some stream_commit))) src) out.old result out.new }
 {
     let m = StreamCommit {
-        xid: word(row[1]),
-        flags: byte(row[2]),
-        commit_lsn: long(row[3]),
-        end_lsn: long(row[4]),
-        time: wire::signed64(long(row[5])),
+        xid: fitting(row[1]),
+        flags: fitting(row[2]),
+        commit_lsn: fitting(row[3]),
+        end_lsn: fitting(row[4]),
+        time: fitting::<u64>(row[5]).cast_signed(),
     };
     let mut again = [0; 16];
     flat::flatten_stream_commit(&mut again, m);
@@ -361,11 +361,16 @@ fn write_stream_commit(version: Version, in_block: bool, row: &[u64; 16], out: &
     }
 }
 
-fn write_stream_abort(version: Version, in_block: bool, row: &[u64; 16], out: &mut [u8]) -> Written
-    ensures { (src : List ℕ) → Settles (write_found version in_block (whole row.now (message_in row.now (some stream_abort))) src) out.old result out.new }
+fn write_stream_abort(
+    version: Version,
+    in_block: bool,
+    row: &[u64; 16],
+    out: &mut [u8],
+) -> Result<usize, Refusal>
+    ensures { (src : List ℕ) → Settles (write_found version in_block (whole row.now (message_in row.now (Some stream_abort))) src) out.old result out.new }
 {
-    let xid = word(row[1]);
-    let sub_xid = word(row[2]);
+    let xid: u32 = fitting(row[1]);
+    let sub_xid: u32 = fitting(row[2]);
     let mut again = [0; 16];
     flat::flatten_stream_abort(&mut again, xid, sub_xid);
     if same_row(&again, row) {
@@ -382,24 +387,26 @@ pub fn write_row(
     row: &[u64; 16],
     source: &[u8],
     out: &mut [u8],
-) -> Written
+) -> Result<usize, Refusal>
     ensures { Settles (write_found version in_block (unflat row.now) source.now) out.old result out.new }
 {
-    match byte(row[0]) {
-        kind::BEGIN => write_begin(version, in_block, row, out),
-        kind::COMMIT => write_commit(version, in_block, row, out),
-        kind::ORIGIN => write_origin(version, in_block, row, source, out),
-        kind::RELATION => write_relation(version, in_block, row, source, out),
-        kind::TYPE => write_type(version, in_block, row, source, out),
-        kind::INSERT => write_insert(version, in_block, row, source, out),
-        kind::UPDATE => write_update(version, in_block, row, source, out),
-        kind::DELETE => write_delete(version, in_block, row, source, out),
-        kind::TRUNCATE => write_truncate(version, in_block, row, source, out),
-        kind::MESSAGE => write_logical_message(version, in_block, row, source, out),
-        kind::STREAM_START => write_stream_start(version, in_block, row, out),
-        kind::STREAM_STOP => write_stream_stop(version, in_block, row, out),
-        kind::STREAM_COMMIT => write_stream_commit(version, in_block, row, out),
-        kind::STREAM_ABORT => write_stream_abort(version, in_block, row, out),
-        _ => refused(Refusal::FIELD),
+    let Ok(kind) = Kind::try_from(fitting::<u8>(row[0])) else {
+        return refused(Refusal::FIELD);
+    };
+    match kind {
+        Kind::Begin => write_begin(version, in_block, row, out),
+        Kind::Commit => write_commit(version, in_block, row, out),
+        Kind::Origin => write_origin(version, in_block, row, source, out),
+        Kind::Relation => write_relation(version, in_block, row, source, out),
+        Kind::Type => write_type(version, in_block, row, source, out),
+        Kind::Insert => write_insert(version, in_block, row, source, out),
+        Kind::Update => write_update(version, in_block, row, source, out),
+        Kind::Delete => write_delete(version, in_block, row, source, out),
+        Kind::Truncate => write_truncate(version, in_block, row, source, out),
+        Kind::Message => write_logical_message(version, in_block, row, source, out),
+        Kind::StreamStart => write_stream_start(version, in_block, row, out),
+        Kind::StreamStop => write_stream_stop(version, in_block, row, out),
+        Kind::StreamCommit => write_stream_commit(version, in_block, row, out),
+        Kind::StreamAbort => write_stream_abort(version, in_block, row, out),
     }
 }

@@ -17,6 +17,7 @@ pub extern "C" fn kq_session_start(session: &mut Session, version: u32)
 }
 
 // Starts a session with no version named.
+#[tactic(auto, unfolding(session::specs::Machine::start_of))]
 #[unsafe(no_mangle)]
 pub extern "C" fn kq_session_start_default(session: &mut Session)
     ensures { session.new ≡ start_of unnamed }
@@ -28,21 +29,22 @@ fn put_answer(said: Answer, answer: &mut [u64; 4]) -> u32
     ensures { filled result answer.new ≡ answer_numbers said }
 {
     match said {
-        Answer::Accepted => {
-            *answer = [0, 0, 0, 0];
+        Ok(None) => {
+            *answer = [0; 4];
             0
         }
-        Answer::Change {
-            tag,
-            identity,
-            columns,
-        } => {
-            *answer = [1, tag, identity as u64, columns as u64];
+        Ok(Some(seen)) => {
+            *answer = [
+                1,
+                seen.tag,
+                u64::from(seen.identity),
+                u64::from(seen.columns),
+            ];
             0
         }
-        Answer::Refused { number, offset } => {
-            *answer = [offset as u64, 0, 0, 0];
-            number as u32
+        Err(refusal) => {
+            *answer = [refusal.offset as u64, 0, 0, 0];
+            u32::from(refusal.number)
         }
     }
 }

@@ -2,16 +2,13 @@
 ghost use Rattle.std.specs.Prelude.{◌≡◌, [], ◌∷◌};
 ghost use Rattle.message.specs.Messages.{read_message};
 ghost use Rattle.capi.specs.Filled.{filled, padded, inside};
-ghost use Rattle.capi.specs.Stepping.{section_of, section_start, start_numbers, step_numbers, moved_on};
+ghost use Rattle.capi.specs.Stepping.{section_of, section_start, start_numbers, position_in, step_numbers, moved_on};
 
-use columns::{
-    Column, OidStep, Position, RelationColumn, RelationStep, Started, TruncatedRelation, TupleStep,
-    Which,
-};
+use columns::{Column, Position, RelationColumn, TruncatedRelation, Which};
 use message::Version;
-use wire::{Refusal, Span};
+use wire::Refusal;
 
-// The sections.
+// The sections. They and `OVER` are numbers: the C interface.
 const NEW_TUPLE: u32 = 0;
 
 const OLD_TUPLE: u32 = 1;
@@ -24,7 +21,12 @@ const OIDS: u32 = 3;
 const OVER: u32 = 255;
 
 // Where stepping through a section starts; another number is no section.
-fn section_start(version: Version, in_block: bool, bytes: &[u8], section: u32) -> Started
+fn section_start(
+    version: Version,
+    in_block: bool,
+    bytes: &[u8],
+    section: u32,
+) -> Result<Position, Refusal>
     ensures { result ≡ section_start (section_of section) bytes.now (read_message version in_block bytes.now) }
 {
     match section {
@@ -32,7 +34,7 @@ fn section_start(version: Version, in_block: bool, bytes: &[u8], section: u32) -
         OLD_TUPLE => columns::tuple_start(version, in_block, bytes, Which::Old),
         COLUMNS => columns::relation_start(version, in_block, bytes),
         OIDS => columns::oid_start(version, in_block, bytes),
-        _ => Started::Refused(Refusal {
+        _ => Err(Refusal {
             number: Refusal::FIELD,
             offset: 0,
         }),
@@ -52,15 +54,13 @@ pub extern "C" fn kq_column_start(
 {
     let started = section_start(Version { number: version }, in_block != 0, bytes, section);
     match started {
-        Started::At(p) => {
-            let Position { offset, left } = p;
-            *position = [offset as u64, left as u64];
+        Ok(p) => {
+            *position = [p.offset as u64, p.left as u64];
             0
         }
-        Started::Refused(r) => {
-            let Refusal { number, offset } = r;
-            *position = [offset as u64, 0];
-            number as u32
+        Err(r) => {
+            *position = [r.offset as u64, 0];
+            r.number as u32
         }
     }
 }
@@ -72,85 +72,82 @@ fn over(out: &mut [u64; 5]) -> u32
     OVER
 }
 
-fn refused(number: u8, offset: usize, out: &mut [u64; 5]) -> u32
-    ensures { filled result out.new ≡ filled number (padded 5 (offset ∷ [])) }
+fn refused(refusal: Refusal, out: &mut [u64; 5]) -> u32
+    ensures { filled result out.new ≡ filled refusal.number (padded 5 (refusal.offset ∷ [])) }
 {
-    *out = [offset as u64, 0, 0, 0, 0];
-    number as u32
+    *out = [refusal.offset as u64, 0, 0, 0, 0];
+    refusal.number as u32
 }
 
-// One step through a tuple, a Relation's columns, a Truncate's OIDs.
-fn tuple_step<'a>(bytes: &[u8], position: &'a mut [u64; 2], out: &'a mut [u64; 5]) -> u32
-    ensures out_after { filled result out.new ≡ step_numbers 0 bytes.now position.old }
-    ensures position_after { position.new ≡ moved_on 0 bytes.now position.old }
+// The position that two numbers are.
+fn position_in(position: &[u64; 2]) -> Position
+    ensures { result ≡ position_in position.now }
 {
-    let offset = position[0] as usize;
-    let left = position[1] as usize;
-    let TupleStep { column, next } = columns::tuple_step(bytes, Position { offset, left });
-    match column {
-        Column::Value {
-            letter,
-            start,
-            length,
-        } => {
-            let Position { offset, left } = next;
-            *position = [offset as u64, left as u64];
-            *out = [letter as u64, start as u64, length as u64, 0, 0];
-            0
-        }
-        Column::Over => over(out),
-        Column::Refused { number, offset } => refused(number, offset, out),
+    Position {
+        offset: position[0] as usize,
+        left: position[1] as usize,
     }
 }
 
-fn relation_step<'a>(bytes: &[u8], position: &'a mut [u64; 2], out: &'a mut [u64; 5]) -> u32
+// One step through a tuple, a Relation's columns, a Truncate's OIDs.
+fn tuple_step(bytes: &[u8], position: &mut [u64; 2], out: &mut [u64; 5]) -> u32
+    ensures out_after { filled result out.new ≡ step_numbers 0 bytes.now position.old }
+    ensures position_after { position.new ≡ moved_on 0 bytes.now position.old }
+{
+    let step = columns::item_at::<Column>(bytes, position_in(position));
+    match step.item {
+        Ok(Some(column)) => {
+            *position = [step.next.offset as u64, step.next.left as u64];
+            *out = [
+                column.letter as u64,
+                column.value.start as u64,
+                column.value.length as u64,
+                0,
+                0,
+            ];
+            0
+        }
+        Ok(None) => over(out),
+        Err(refusal) => refused(refusal, out),
+    }
+}
+
+fn relation_step(bytes: &[u8], position: &mut [u64; 2], out: &mut [u64; 5]) -> u32
     ensures out_after { filled result out.new ≡ step_numbers 2 bytes.now position.old }
     ensures position_after { position.new ≡ moved_on 2 bytes.now position.old }
 {
-    let offset = position[0] as usize;
-    let left = position[1] as usize;
-    let RelationStep { column, next } = columns::relation_step(bytes, Position { offset, left });
-    match column {
-        RelationColumn::Column {
-            key,
-            name,
-            type_oid,
-            modifier,
-        } => {
-            let Position { offset, left } = next;
-            let Span { start, length } = name;
-            let bits = wire::bits32(modifier) as u64;
-            *position = [offset as u64, left as u64];
+    let step = columns::item_at::<RelationColumn>(bytes, position_in(position));
+    match step.item {
+        Ok(Some(column)) => {
+            let bits = column.modifier.cast_unsigned() as u64;
+            *position = [step.next.offset as u64, step.next.left as u64];
             *out = [
-                key as u64,
-                start as u64,
-                length as u64,
-                type_oid as u64,
+                column.key as u64,
+                column.name.start as u64,
+                column.name.length as u64,
+                column.type_oid as u64,
                 bits,
             ];
             0
         }
-        RelationColumn::Over => over(out),
-        RelationColumn::Refused { number, offset } => refused(number, offset, out),
+        Ok(None) => over(out),
+        Err(refusal) => refused(refusal, out),
     }
 }
 
-fn oid_step<'a>(bytes: &[u8], position: &'a mut [u64; 2], out: &'a mut [u64; 5]) -> u32
+fn oid_step(bytes: &[u8], position: &mut [u64; 2], out: &mut [u64; 5]) -> u32
     ensures out_after { filled result out.new ≡ step_numbers 3 bytes.now position.old }
     ensures position_after { position.new ≡ moved_on 3 bytes.now position.old }
 {
-    let offset = position[0] as usize;
-    let left = position[1] as usize;
-    let OidStep { relation, next } = columns::oid_step(bytes, Position { offset, left });
-    match relation {
-        TruncatedRelation::Oid(oid) => {
-            let Position { offset, left } = next;
-            *position = [offset as u64, left as u64];
-            *out = [oid as u64, 0, 0, 0, 0];
+    let step = columns::item_at::<TruncatedRelation>(bytes, position_in(position));
+    match step.item {
+        Ok(Some(relation)) => {
+            *position = [step.next.offset as u64, step.next.left as u64];
+            *out = [relation.oid as u64, 0, 0, 0, 0];
             0
         }
-        TruncatedRelation::Over => over(out),
-        TruncatedRelation::Refused { number, offset } => refused(number, offset, out),
+        Ok(None) => over(out),
+        Err(refusal) => refused(refusal, out),
     }
 }
 
@@ -169,6 +166,12 @@ pub extern "C" fn kq_column_step(
         NEW_TUPLE | OLD_TUPLE => tuple_step(bytes, position, out),
         COLUMNS => relation_step(bytes, position, out),
         OIDS => oid_step(bytes, position, out),
-        _ => refused(Refusal::FIELD, 0, out),
+        _ => refused(
+            Refusal {
+                number: Refusal::FIELD,
+                offset: 0,
+            },
+            out,
+        ),
     }
 }

@@ -3,7 +3,6 @@ ghost use Rattle.capi.specs.Flat.{write_flat};
 
 use crate::rows;
 use message::Version;
-use writer::Written;
 
 // Writes the message of a flat form, whose parts lie in `source`, to the front of `out`.
 #[unsafe(no_mangle)]
@@ -19,11 +18,11 @@ pub extern "C" fn kq_write(
 {
     let version = Version { number: version };
     match rows::write_row(version, in_block != 0, fields, source, out) {
-        Written::Length(n) => {
+        Ok(n) => {
             *res = n as u64;
             0
         }
-        Written::Refused(refusal) => {
+        Err(refusal) => {
             *res = refusal.offset as u64;
             refusal.number as u32
         }

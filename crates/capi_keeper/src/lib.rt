@@ -7,28 +7,31 @@ ghost use Rattle.keeper.specs.Machine.{step_of};
 ghost use Rattle.capi_keeper.specs.Replies.{returned, numbers};
 
 use keeper::Reply;
-use session::{Answer, Session};
+use session::Session;
 
 fn put_reply(said: Reply, reply: &mut [u64; 5]) -> u32
     ensures { (result ≡ returned said.answer) × (reply.new ≡ numbers said.answer said.released) }
 {
     let Reply { answer, released } = said;
     match answer {
-        Answer::Accepted => {
+        Ok(None) => {
             *reply = [0, 0, 0, 0, released as u64];
             0
         }
-        Answer::Change {
-            tag,
-            identity,
-            columns,
-        } => {
-            *reply = [1, tag, identity as u64, columns as u64, released as u64];
+        Ok(Some(seen)) => {
+            let identity = u64::from(seen.identity);
+            *reply = [
+                1,
+                seen.tag,
+                identity,
+                u64::from(seen.columns),
+                released as u64,
+            ];
             0
         }
-        Answer::Refused { number, offset } => {
-            *reply = [offset as u64, 0, 0, 0, released as u64];
-            number as u32
+        Err(refusal) => {
+            *reply = [refusal.offset as u64, 0, 0, 0, released as u64];
+            u32::from(refusal.number)
         }
     }
 }

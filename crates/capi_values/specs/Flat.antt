@@ -1,6 +1,5 @@
 -- To be believed (for C). The flat form of a binary value: three numbers. What writing one gives.
-use Rattle.std.specs.Prelude.{ℕ, List, [], ◌∷◌, cond, ◌&&◌, eqb, leb, get_or}
-use Rattle.std.proofs.Math.Option.{Option, none, some}
+use Rattle.std.specs.Prelude.{ℕ, List, [], ◌∷◌, cond, ◌&&◌, eqb, leb, get_or, Option, None, Some}
 use Rattle.message.specs.Write.{Writing, refused}
 use Rattle.values.specs.declared.ValueKind.{ValueKind}
 use Rattle.values.specs.declared.Value.{Value}
@@ -22,8 +21,8 @@ flat x = flat_bits (row_of (kind_of x)).oid (bits_of x)
 abbrev pub bits_of_kind : ValueKind → (oid a b : ℕ) → Option Bits
 bits_of_kind x oid a b =
     cond (is_raw x)
-    (cond (eqb oid 0) (some (Part a b)) none)
-    (cond (leb a (row_of x).most && eqb b 0) (some (Number (row_of x).width a)) none)
+    (cond (eqb oid 0) (Some (Part a b)) None)
+    (cond (leb a (row_of x).most && eqb b 0) (Some (Number (row_of x).width a)) None)
 
 -- the bits whose flat form three numbers are
 abbrev pub bits_in : List ℕ → Option Bits
@@ -31,8 +30,8 @@ bits_in ns = let oid = get_or ns 0 0 in bits_of_kind (kind_of_type oid) oid (get
 
 -- numbers that are no value's flat form are refused before all else
 abbrev pub write_found : Option Bits → List ℕ → Writing
-write_found none src = refused 4 0
-write_found (some b) src = written b src
+write_found None src = refused 4 0
+write_found (Some b) src = written b src
 
 abbrev pub write_flat : List ℕ → List ℕ → Writing
 write_flat ns src = write_found (bits_in ns) src

@@ -1,7 +1,8 @@
 #![tactic(auto)]
 // Binary values exported to C, in an archive of its own as the keeper's is: what they share with reading and writing keeps its one caller there.
 ghost use Rattle.std.specs.Prelude.{◌≡◌};
-ghost use Rattle.writer.specs.Answer.{Settles, refusal};
+ghost use Rattle.wire.specs.Cursors.{refuse};
+ghost use Rattle.writer.specs.Answer.{Settles};
 ghost use Rattle.writer.specs.Told.{Writes};
 ghost use Rattle.values.specs.Types.{kind_of_type};
 ghost use Rattle.values.specs.Steps.{typed_step};
@@ -9,9 +10,8 @@ ghost use Rattle.capi_values.specs.Flat.{flat, write_flat};
 ghost use Rattle.capi_values.specs.Stepping.{position_in, position_numbers, returned, numbers};
 
 use columns::Position;
-use values::{Bits, TypeRow, TypedColumn, TypedStep, Value, ValueKind};
+use values::{Bits, Value, ValueKind};
 use wire::Refusal;
-use writer::Written;
 
 // Nothing is left: no refusal.
 const OVER: u32 = 255;
@@ -20,14 +20,8 @@ const OVER: u32 = 255;
 fn flatten(value: Value) -> [u64; 3]
     ensures { result ≡ flat value }
 {
-    let kind = values::kind_of(value);
-    let TypeRow {
-        oid,
-        width: _,
-        most: _,
-    } = values::row_of(kind);
-    let bits = values::bits_of(value);
-    match bits {
+    let oid = values::row_of(values::kind_of(value)).oid;
+    match values::bits_of(value) {
         Bits::Number { width: _, number } => [oid as u64, number, 0],
         Bits::Part { start, length } => [oid as u64, start as u64, length as u64],
     }
@@ -42,25 +36,26 @@ pub extern "C" fn kq_value_step(
     value: &mut [u64; 3],
 ) -> u32
     ensures { let s = typed_step bytes.now (position_in position.old) type_oid in
-        (result ≡ returned s.column) × (value.new ≡ numbers s.column) × (position.new ≡ position_numbers s.next) }
+        (result ≡ returned s.item) × (value.new ≡ numbers s.item) × (position.new ≡ position_numbers s.next) }
 {
-    let offset = position[0] as usize;
-    let left = position[1] as usize;
-    let TypedStep { column, next } = values::typed_step(bytes, Position { offset, left }, type_oid);
-    let Position { offset, left } = next;
-    *position = [offset as u64, left as u64];
-    match column {
-        TypedColumn::Value(x) => {
+    let at = Position {
+        offset: position[0] as usize,
+        left: position[1] as usize,
+    };
+    let step = values::typed_step(bytes, at, type_oid);
+    *position = [step.next.offset as u64, step.next.left as u64];
+    match step.item {
+        Ok(Some(x)) => {
             *value = flatten(x);
             0
         }
-        TypedColumn::Over => {
+        Ok(None) => {
             *value = [0, 0, 0];
             OVER
         }
-        TypedColumn::Refused { number, offset } => {
-            *value = [offset as u64, 0, 0];
-            number as u32
+        Err(refusal) => {
+            *value = [refusal.offset as u64, 0, 0];
+            refusal.number as u32
         }
     }
 }
@@ -77,17 +72,17 @@ fn kind_in(oid: u64) -> ValueKind
 }
 
 // Three numbers that are no value's flat form.
-fn no_value() -> Written
-    ensures { result ≡ refusal 4 0 }
+fn no_value() -> Result<usize, Refusal>
+    ensures { result ≡ refuse 4 0 }
 {
-    Written::Refused(Refusal {
+    Err(Refusal {
         number: Refusal::FIELD,
         offset: 0,
     })
 }
 
 // Writes the value of a flat form.
-fn write_flat(value: &[u64; 3], source: &[u8], out: &mut [u8]) -> Written
+fn write_flat(value: &[u64; 3], source: &[u8], out: &mut [u8]) -> Result<usize, Refusal>
     ensures { Settles (write_flat value.now source.now) out.old result out.new }
 {
     let oid = value[0];
@@ -104,19 +99,18 @@ fn write_flat(value: &[u64; 3], source: &[u8], out: &mut [u8]) -> Written
             values::write_bits(Bits::Part { start, length }, source, out)
         }
         _ => {
-            let TypeRow {
-                oid: _,
-                width,
-                most,
-            } = values::row_of(kind);
-            if most < first {
+            let row = values::row_of(kind);
+            if row.most < first {
                 return no_value();
             }
             if second != 0 {
                 return no_value();
             }
-            let number = first;
-            values::write_bits(Bits::Number { width, number }, source, out)
+            let bits = Bits::Number {
+                width: row.width,
+                number: first,
+            };
+            values::write_bits(bits, source, out)
         }
     }
 }
@@ -132,11 +126,11 @@ pub extern "C" fn kq_value_write(
     ensures { Writes (write_flat value.now source.now) out.old result res.new out.new }
 {
     match write_flat(value, source, out) {
-        Written::Length(n) => {
+        Ok(n) => {
             *res = n as u64;
             0
         }
-        Written::Refused(refusal) => {
+        Err(refusal) => {
             *res = refusal.offset as u64;
             refusal.number as u32
         }

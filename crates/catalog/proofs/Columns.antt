@@ -6,7 +6,9 @@ use native.Mathlib.Omega.{arith}
 use lib.ListN.{length, get_or, set}
 use lib.Seq.{ext_get_or}
 use Rattle.wire.specs.Lists.{each, first, rest}
-use Rattle.catalog.specs.Table.{Row, row, rows_of, Sized, no_row}
+use Rattle.catalog.specs.declared.announcements.Announcements.{Announcements}
+use Rattle.catalog.specs.declared.rows.Row.{Row}
+use Rattle.catalog.specs.Table.{row, rows_of, row_list, Sized, no_row}
 
 -- a column's head and tail
 pub first-is : (l : List ℕ) → first l ≡ get_or l 0 0
@@ -40,6 +42,9 @@ rest-later (a ∷ l) i v = refl
 pub rows_length : (keys tags identities columns : List ℕ) → length (rows_of keys tags identities columns) ≡ length keys
 rows_length [] tags identities columns = refl
 rows_length (a ∷ keys) tags identities columns = ap suc (rows_length keys (rest tags) (rest identities) (rest columns))
+
+pub row_list_length : (a : Announcements) → length (row_list a) ≡ length a.keys
+row_list_length a = rows_length a.keys a.tags a.identities a.columns
 
 -- a row by its index
 pub rows_at : (keys tags identities columns : List ℕ) (i : ℕ) → i < length keys
@@ -77,29 +82,26 @@ module _ {A : Type 0} (f : A → ℕ) where
   each_at d (a ∷ l) (suc i) h = each_at d l i (omega (arith, h))
 
 -- a column of the rows is the list that it was made of
-module _ (keys tags identities columns : List ℕ) where
-  column : (f : Row → ℕ) (l : List ℕ) → length l ≡ length keys
-      → ((i : ℕ) → f (row (get_or keys i 0) (get_or tags i 0) (get_or identities i 0) (get_or columns i 0)) ≡ get_or l i 0)
-      → each f (rows_of keys tags identities columns) ≡ l
+module _ (a : Announcements) where
+  column : (f : Row → ℕ) (l : List ℕ) → length l ≡ length a.keys
+      → ((i : ℕ) → f (row (get_or a.keys i 0) (get_or a.tags i 0) (get_or a.identities i 0) (get_or a.columns i 0)) ≡ get_or l i 0)
+      → each f (row_list a) ≡ l
   column f l e same =
-      ext_get_or 0 (each f (rows_of keys tags identities columns)) l
-      (each-length f (rows_of keys tags identities columns) ∙ rows_length keys tags identities columns ∙ sym e)
-      (λ i h. let b : i < length keys = omega (arith, h, each-length f (rows_of keys tags identities columns), rows_length keys tags identities columns) in
-      each_at f no_row (rows_of keys tags identities columns) i (omega (arith, b, rows_length keys tags identities columns))
-      ∙ ap f (rows_at keys tags identities columns i b) ∙ same i)
+      ext_get_or 0 (each f (row_list a)) l
+      (each-length f (row_list a) ∙ row_list_length a ∙ sym e)
+      (λ i h. let b : i < length a.keys = omega (arith, h, each-length f (row_list a), row_list_length a) in
+      each_at f no_row (row_list a) i (omega (arith, b, row_list_length a))
+      ∙ ap f (rows_at a.keys a.tags a.identities a.columns i b) ∙ same i)
 
-  module _ (s : Sized keys tags identities columns) where
-    pub keys_of : each (λ r. r.key) (rows_of keys tags identities columns) ≡ keys
-    keys_of = column (λ r. r.key) keys refl (λ i. refl)
+  module _ (s : Sized a) where
+    pub keys_of : each (λ r. r.key) (row_list a) ≡ a.keys
+    keys_of = column (λ r. r.key) a.keys refl (λ i. refl)
 
-    pub tags_of : each (λ r. r.tag) (rows_of keys tags identities columns) ≡ tags
-    tags_of = column (λ r. r.tag) tags (s.tags_256 ∙ sym s.keys_256) (λ i. refl)
+    pub tags_of : each (λ r. r.tag) (row_list a) ≡ a.tags
+    tags_of = column (λ r. r.tag) a.tags (s.tags_256 ∙ sym s.keys_256) (λ i. refl)
 
-    pub identities_of : each (λ r. r.identity) (rows_of keys tags identities columns) ≡ identities
-    identities_of = column (λ r. r.identity) identities (s.identities_256 ∙ sym s.keys_256) (λ i. refl)
+    pub identities_of : each (λ r. r.identity) (row_list a) ≡ a.identities
+    identities_of = column (λ r. r.identity) a.identities (s.identities_256 ∙ sym s.keys_256) (λ i. refl)
 
-    pub columns_of : each (λ r. r.columns) (rows_of keys tags identities columns) ≡ columns
-    columns_of = column (λ r. r.columns) columns (s.columns_256 ∙ sym s.keys_256) (λ i. refl)
-
-    pub rows_256 : length (rows_of keys tags identities columns) ≡ 256
-    rows_256 = rows_length keys tags identities columns ∙ s.keys_256
+    pub columns_of : each (λ r. r.columns) (row_list a) ≡ a.columns
+    columns_of = column (λ r. r.columns) a.columns (s.columns_256 ∙ sym s.keys_256) (λ i. refl)

@@ -7,10 +7,12 @@ use native.Mathlib.Omega.{arith}
 use lib.ListN.{length, get_or}
 use lib.Dec.{eqb}
 use borrow.Author.Tests.{eqb-true, eqb-false, eq-eqb, ne_eqb, leb-false}
-use Rattle.catalog.specs.declared.Lookup.{Lookup}
-use Rattle.catalog.specs.declared.Lookup.TheVariants.{Missing}
+use Rattle.std.specs.Prelude.{Option}
+use Rattle.catalog.specs.declared.announcements.Announcement.{Announcement}
+use Rattle.std.specs.Prelude.{None}
 use Rattle.wire.specs.Lists.{any, tally}
-use Rattle.catalog.specs.Table.{Row, key_of, key_is, found_in, lookup_in, seen_in, has_in, is_full, held_by, dropped, released, put_row, Sorted, Small, place_in, no_row}
+use Rattle.catalog.specs.declared.rows.Row.{Row}
+use Rattle.catalog.specs.Table.{key_of, key_is, found_in, lookup_in, seen_in, has_in, is_full, held_by, dropped, released, put_row, Sorted, Small, place_in, no_row}
 use Rattle.catalog.proofs.Sorted as s
 use Rattle.catalog.proofs.Sorted.{commons}
 
@@ -46,10 +48,10 @@ pub fresh : (room : ℕ) → room ≤ 256 → Table room []
 fresh room h = record { sorted = tt; most = omega arith; small = h }
 
 -- whether a row is found
-pub found_has : (found : Lookup → Bool) → ((r : Row) → found (found_in r) ≡ true) → found Missing ≡ false → (l : List Row) (k : ℕ) → found (seen_in k l) ≡ has_in k l
+pub found_has : (found : Option Announcement → Bool) → ((r : Row) → found (found_in r) ≡ true) → found None ≡ false → (l : List Row) (k : ℕ) → found (seen_in k l) ≡ has_in k l
 found_has found some none l k = go (has_in k l)
   where
-    go : (v : Bool) → found (cond v (found_in (get_or l (place_in k l) no_row)) Missing) ≡ v
+    go : (v : Bool) → found (cond v (found_in (get_or l (place_in k l) no_row)) None) ≡ v
     go true = some (get_or l (place_in k l) no_row)
     go false = none
 
@@ -81,7 +83,7 @@ module _ (room : ℕ) (l : List Row) (a : Table room l) where
       let b = put-table r free in
       s.seen_first k (put_row room r l) b.sorted (omega (arith, b.most, b.small))
       ∙ s.put_found r room l a.sorted few (less r free) k
-      ∙ ap (λ (x : Lookup). cond (eqb r.key k) (found_in r) x) (sym (sight k))
+      ∙ ap (λ (x : Option Announcement). cond (eqb r.key k) (found_in r) x) (sym (sight k))
 
   -- THE ROWS OF A HOLDER ARE DROPPED
   module _ (x : ℕ) where
@@ -92,10 +94,10 @@ module _ (room : ℕ) (l : List Row) (a : Table room l) where
       small = a.small;
     }
 
-  pub drop_seen : (x t o : ℕ) → Small o → seen_in (key_of t o) (dropped x l) ≡ cond (eqb x t) Missing (seen_in (key_of t o) l)
+  pub drop_seen : (x t o : ℕ) → Small o → seen_in (key_of t o) (dropped x l) ≡ cond (eqb x t) None (seen_in (key_of t o) l)
   drop_seen x t o z = let b = drop-table x in s.seen_first (key_of t o) (dropped x l) b.sorted (omega (arith, b.most, b.small)) ∙ go (eqb x t) refl
     where
-      go : (v : Bool) → eqb x t ≡ v → lookup_in (key_is (key_of t o)) (dropped x l) ≡ cond v Missing (seen_in (key_of t o) l)
+      go : (v : Bool) → eqb x t ≡ v → lookup_in (key_is (key_of t o)) (dropped x l) ≡ cond v None (seen_in (key_of t o) l)
       go true e = s.drop_own x t o z l (eqb-true x t e)
       go false e = s.drop_other x t o z l (eqb-false x t e) ∙ sym (sight (key_of t o))
 
@@ -118,7 +120,7 @@ module _ (room : ℕ) (l : List Row) (a : Table room l) where
     release_seen k = let b = release-table in s.seen_first k (released room x l) b.sorted (omega (arith, b.most, b.small)) ∙ release_found k
 
     module _ (nz : x ≡ 0 → ⊥) (o : ℕ) (z : Small o) where
-      pub release-own : seen_in (key_of x o) (released room x l) ≡ Missing
+      pub release-own : seen_in (key_of x o) (released room x l) ≡ None
       release-own = release_seen (key_of x o) ∙ rw (s.commons_other x x o nz l) (s.drop_own x x o z l refl)
 
       pub release_other : (t : ℕ) → (t ≡ 0 → ⊥) → (x ≡ t → ⊥) → seen_in (key_of t o) (released room x l) ≡ seen_in (key_of t o) l

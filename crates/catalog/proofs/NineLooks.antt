@@ -9,7 +9,8 @@ use lib.Dec.{eqb, ltb}
 use lib.ListN.{length}
 use borrow.Author.Tests.{ltb-true, ltb-false, eqb-true, eqb-false, eq-eqb, ne_eqb, lt-ltb}
 use Rattle.wire.specs.Lists.{any}
-use Rattle.catalog.specs.Table.{Row, looked, seek, is, key_at, place_in}
+use Rattle.catalog.specs.declared.rows.Row.{Row}
+use Rattle.catalog.specs.Table.{looked, seek, is, key_at, place_in}
 use Rattle.catalog.specs.Looks.{looks}
 use Rattle.catalog.proofs.Seek.{seek_zero, seek_look, seek-none, seek-ends, reach}
 

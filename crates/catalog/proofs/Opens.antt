@@ -9,10 +9,11 @@ use lib.Dec.{eqb, leb}
 use borrow.Author.Tests.{eq-eqb, ne_eqb, eqb-true, eqb-false, le-leb, lt-leb}
 use Rattle.wire.specs.Lists.{any, tally, replace_first, change, keep, first_of, each}
 use Rattle.catalog.specs.Table.{Stream, streams_of, is, xid_is, changed_of, free_stream, new_stream, marked}
-use Rattle.catalog.specs.Opens.{Streams, streams, places_in, placed, fresh_streams, is_open_in, open_count_in, changed_in, open_in, close_in, mark_in}
+use Rattle.catalog.specs.declared.streams.Streams.{Streams}
+use Rattle.catalog.specs.Opens.{places_in, placed, fresh_streams, is_open_in, open_count_in, changed_in, open_in, close_in, mark_in}
 use Rattle.catalog.proofs.Counting.{bit, any-tally, none-tally, tally-none, tally_bit, swap_tally, keep-length, tally-keep, length_by_counts}
 use Rattle.catalog.proofs.Columns.{each-length}
-use Rattle.catalog.proofs.StreamLaws.{streams-each, xids_of, marks_of}
+use Rattle.catalog.proofs.StreamLaws.{streams-each}
 use Rattle.catalog.proofs.Firsts.{first_swap_other, first_swap_new, first-change, tally-change, change-length, swap_length}
 
 abbrev pub NonZero : ℕ → Type 0
@@ -24,26 +25,6 @@ pub record Sound (s : Streams) : Type 0 where
 
 placed_places : (l : List Stream) → places_in (placed l) ≡ l
 placed_places l = streams-each l
-
--- arrays that were stored
-placed-is : (x m : List ℕ) (l : List Stream) → length m ≡ length x → streams_of x m ≡ l → streams x m ≡ placed l
-placed-is x m l n e = rw (← e, xids_of x m, marks_of x m n)
-
-module _ (s : Streams) (x m : List ℕ) (z : (length x ≡ 16) × (length m ≡ 16)) where
-  long : length m ≡ length x
-  long = z.1 ∙ sym z.0
-
-  pub open_is : (t : ℕ) → streams_of x m ≡ replace_first (xid_is 0) (new_stream t) (places_in s) → streams x m ≡ open_in s t
-  unfolding open_in
-  open_is t e = placed-is x m (replace_first (xid_is 0) (new_stream t) (places_in s)) long e
-
-  pub close_is : (t : ℕ) → streams_of x m ≡ replace_first (xid_is t) free_stream (places_in s) → streams x m ≡ close_in s t
-  unfolding close_in
-  close_is t e = placed-is x m (replace_first (xid_is t) free_stream (places_in s)) long e
-
-  pub mark_is : (t : ℕ) → streams_of x m ≡ change (marked t) (places_in s) → streams x m ≡ mark_in s t
-  unfolding mark_in
-  mark_is t e = placed-is x m (change (marked t) (places_in s)) long e
 
 module _ (s : Streams) where
   pub no_xid : false ≡ is_open_in s 0

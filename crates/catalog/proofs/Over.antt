@@ -8,7 +8,8 @@ use native.Mathlib.Omega.{arith}
 use lib.ListN.{length, take, drop, get_or, set, length-append, length-take, length-drop, drop_of_length-le}
 use lib.Seq.{take-suc, drop-cons, take-append_seam, drop-append-add, get_or-append-add, set-append_seam, append_snoc, drop-append-le, drop-drop, get_or-drop, length-take-le, take-take, take-append-le}
 use Rattle.wire.specs.Lists.{keep}
-use Rattle.catalog.specs.Table.{Row, no_row, over, part, insert_at}
+use Rattle.catalog.specs.declared.rows.Row.{Row}
+use Rattle.catalog.specs.Table.{no_row, over, part, insert_at}
 use Rattle.catalog.proofs.Sorted.{keep_most}
 
 -- a row more
@@ -96,8 +97,8 @@ module _ (at : ℕ) (r : Row) (old rows : List Row) (held : Row) (i : ℕ) (s : 
     whole = rw (s.whole, q, s.is, over-at s.new old i (omega (arith, s.size))) (sym (shifted_next at r old i s.low b));
   }
 
-  pub shift_end : (rows' : List Row) (n : ℕ) → rows' ≡ set rows i held → i ≡ n → rows' ≡ over (insert_at at r (take n old)) old
-  shift_end rows' n e z = store_held rows' e ∙ rw (s.whole, z)
+  pub shift_end : (rows' : List Row) (n : ℕ) → rows' ≡ set rows n held → i ≡ n → rows' ≡ over (insert_at at r (take n old)) old
+  shift_end rows' n e z = store_held rows' (rw (← z) at e) ∙ rw (s.whole, z)
 
 -- SOME ROWS ARE KEPT
 
@@ -157,7 +158,7 @@ module _ (base : List Row) (start : ℕ) (p : Row → Bool) (old rows : List Row
       rw (part-next start i old s.low b, keep_append p (part start (i - start) old) (get_or old i no_row))
       (sym (append_assoc base (keep p (part start (i - start) old)) (cond (p (get_or old i no_row)) (get_or old i no_row ∷ []) [])))
 
-  pub keep_turn : (rows' : List Row) → p (get_or rows i no_row) ≡ true → rows' ≡ set rows kept (get_or rows i no_row) → Keeping base start p old rows' (kept + 1) (i + 1)
+  keep_turn : (rows' : List Row) → p (get_or rows i no_row) ≡ true → rows' ≡ set rows kept (get_or rows i no_row) → Keeping base start p old rows' (kept + 1) (i + 1)
   keep_turn rows' t e =
       let m : base ++ keep p (part start (i + 1 - start) old) ≡ new ++ get_or old i no_row ∷ [] = one_more ∙ rw (← kept_row, t) in
       record {
@@ -191,15 +192,19 @@ keep_end to start n p old rows kept i s e h =
     length-append (take to old) (keep p (part start n old)) ∙ (let l = length-take-le to old h in omega arith) in
     ((rw z at s.size) ∙ a, (rw z at s.is))
 
--- all rows are kept where rows are moved
-pub every : Row → Bool
-every r = true
+-- SOME ROWS ARE MOVED: k of those from `from` on stand at `to`
+module _ (to from : ℕ) (old : List Row) (h : to ≤ from) where
+  pub move_start : to ≤ length old → old ≡ over (take to old ++ part from 0 old) old
+  move_start m = sym (rw (append-nil (take to old)) (over_self to old))
 
-pub keep_every : (l : List Row) → keep every l ≡ l
-unfolding every
-keep_every [] = refl
-keep_every (a ∷ l) = ap (λ (m : List Row). a ∷ m) (keep_every l)
-
-pub every_is : (r : Row) → every r ≡ true
-unfolding every
-every_is r = refl
+  pub move_turn : (k : ℕ) (rows rows' : List Row) → from + k < length old → rows ≡ over (take to old ++ part from k old) old
+      → rows' ≡ set rows (to + k) (get_or rows (from + k) no_row) → rows' ≡ over (take to old ++ part from (k + 1) old) old
+  move_turn k rows rows' b is e =
+      let new : List Row = take to old ++ part from k old in
+      let r : Row = get_or old (from + k) no_row in
+      let n : length new ≡ to + k =
+      length-append (take to old) (part from k old) ∙ omega (arith, length-take-le to old (omega arith), length-take-le k (drop from old) (omega (arith, length-drop from old))) in
+      let g : get_or rows (from + k) no_row ≡ r = rw is (over-at new old (from + k) (omega arith)) in
+      let p : part from (k + 1) old ≡ part from k old ++ r ∷ [] =
+      rw (add-one k) (take-suc (drop from old) k no_row (omega (arith, length-drop from old)) ∙ ap (λ (x : Row). part from k old ++ x ∷ []) (get_or-drop from old k no_row)) in
+      e ∙ rw (g, is, ← n) (over_push new old r (omega arith)) ∙ ap (λ (m : List Row). over m old) (append_assoc (take to old) (part from k old) (r ∷ []) ∙ rw (← p))

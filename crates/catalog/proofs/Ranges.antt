@@ -9,9 +9,12 @@ use lib.Dec.{eqb, ltb, leb}
 use lib.ListN.{length, take, drop, get_or, set, length-append, length-take, length-drop, length-set, take-append-drop, drop_of_length-le}
 use lib.Seq.{take-add, take-append-add, drop-append-add, take-append-le, drop-append-le, take-nil, take_all, get_or-take, get_or-drop, length-take-le, set-append_left}
 use borrow.Author.Tests.{lt-ltb, le-ltb, ltb-true, ltb-false, le-leb, lt-leb, leb-true, leb-false}
-use Rattle.catalog.specs.declared.Lookup.TheVariants.{Missing, Found}
-use Rattle.catalog.specs.Table.{Row, row, rows_of, no_row, over, part, within, room_beside, Leaves, looked, seek, key_at, place_in, is_at, found_in, seen_in, has_in, is_full, insert_at, put_row}
-use Rattle.catalog.proofs.Columns.{rows_length, rows_at}
+use Rattle.std.specs.Prelude.{Some, None}
+use Rattle.catalog.specs.declared.announcements.Announcements.{Announcements}
+use Rattle.catalog.specs.declared.range.Range.{Range}
+use Rattle.catalog.specs.declared.rows.Row.{Row}
+use Rattle.catalog.specs.Table.{announcement, row, row_list, no_row, over, part, within, room_beside, Leaves, looked, seek, key_at, place_in, is_at, found_in, seen_in, has_in, is_full, insert_at, put_row}
+use Rattle.catalog.proofs.Columns.{row_list_length, rows_at}
 use Rattle.catalog.proofs.Seek.{seek_zero, seek_look, seek-same, seek-ends}
 use Rattle.catalog.proofs.Over.{over_self, insert-length}
 
@@ -38,58 +41,53 @@ module _ (at : ℕ → ℕ) (k c : ℕ) where
       ∙ seek_shift n (looked (λ i. at (c + i)) k base size) (size / 2)
       ∙ ap (λ (x : ℕ). c + x) (sym (seek_look (λ i. at (c + i)) k n base size))
 
-module _ (keys tags identities columns : List ℕ) (from size : ℕ) (fits : from + size ≤ length keys) where
-  abbrev rows : List Row
-  rows = rows_of keys tags identities columns
-
+module _ (a : Announcements) (from size : ℕ) (fits : from + size ≤ length a.keys) where
   abbrev mine : List Row
-  mine = part from size rows
+  mine = part from size (row_list a)
 
-  pub mine_size : length mine ≡ size
-  mine_size = let a = length-take size (drop from rows) in let b = length-drop from rows in let c = rows_length keys tags identities columns in omega arith
+  mine_size : length mine ≡ size
+  mine_size = let n = length-take size (drop from (row_list a)) in let m = length-drop from (row_list a) in let c = row_list_length a in omega arith
 
-  mine_at : (i : ℕ) → i < size → get_or mine i no_row ≡ row (get_or keys (from + i) 0) (get_or tags (from + i) 0) (get_or identities (from + i) 0) (get_or columns (from + i) 0)
-  mine_at i h = get_or-take size (drop from rows) i no_row h ∙ get_or-drop from rows i no_row ∙ rows_at keys tags identities columns (from + i) (omega arith)
+  mine_at : (i : ℕ) → i < size → get_or mine i no_row ≡ row (get_or a.keys (from + i) 0) (get_or a.tags (from + i) 0) (get_or a.identities (from + i) 0) (get_or a.columns (from + i) 0)
+  mine_at i h = get_or-take size (drop from (row_list a)) i no_row h ∙ get_or-drop from (row_list a) i no_row ∙ rows_at a.keys a.tags a.identities a.columns (from + i) (omega arith)
 
-  module _ (k at : ℕ) (place : at ≡ seek 9 (λ i. get_or keys i 0) k from size) where
+  module _ (k at : ℕ) (place : at ≡ seek 9 (λ i. get_or a.keys i 0) k from size) where
     pub place_here : at ≡ from + place_in k mine
     place_here =
         let z : from ≡ from + 0 = omega arith in
         place
-        ∙ ap (λ (b : ℕ). seek 9 (λ i. get_or keys i 0) k b size) z
-        ∙ seek_shift (λ i. get_or keys i 0) k from 9 0 size
-        ∙ ap (λ (x : ℕ). from + x) (seek-same (λ i. get_or keys (from + i) 0) (key_at mine) k 9 0 size (λ i h b. sym (ap (λ (r : Row). r.key) (mine_at i (omega arith)))))
+        ∙ ap (λ (b : ℕ). seek 9 (λ i. get_or a.keys i 0) k b size) z
+        ∙ seek_shift (λ i. get_or a.keys i 0) k from 9 0 size
+        ∙ ap (λ (x : ℕ). from + x) (seek-same (λ i. get_or a.keys (from + i) 0) (key_at mine) k 9 0 size (λ i h b. sym (ap (λ (r : Row). r.key) (mine_at i (omega arith)))))
         ∙ ap (λ (n : ℕ). from + seek 9 (key_at mine) k 0 n) (sym mine_size)
 
     pub place_most : at ≤ from + size
-    place_most = omega (arith, place, (seek-ends (λ i. get_or keys i 0) k 9 from size).1)
+    place_most = omega (arith, place, (seek-ends (λ i. get_or a.keys i 0) k 9 from size).1)
 
     -- whether the key is there
-    at_here : (p : ℕ) → at ≡ from + p → (v : Bool) → ltb p size ≡ v → ltb at (from + size) && eqb (get_or keys at 0) k ≡ is_at k p mine
+    at_here : (p : ℕ) → at ≡ from + p → (v : Bool) → ltb p size ≡ v → ltb at (from + size) && eqb (get_or a.keys at 0) k ≡ is_at k p mine
     at_here p q true w =
         let h = ltb-true p size w in
         rw (q, lt-ltb (from + p) (from + size) (omega arith), mine_size, w, ap (λ (r : Row). r.key) (mine_at p h))
     at_here p q false w = let h = ltb-false p size w in rw (q, le-ltb (from + p) (from + size) (omega arith), mine_size, w)
 
-    pub has_here : ltb at (from + size) && eqb (get_or keys at 0) k ≡ has_in k mine
-    has_here = at_here (place_in k mine) place_here (ltb (place_in k mine) size) refl
+    module _ (b : Bool) (test : b ≡ ltb at (from + size) && eqb (get_or a.keys at 0) k) where
+      pub has_here : b ≡ has_in k mine
+      has_here = test ∙ at_here (place_in k mine) place_here (ltb (place_in k mine) size) refl
 
-    -- a place that has it
-    pub at-inside : has_in k mine ≡ true → place_in k mine < size
-    at-inside e = go (ltb (place_in k mine) (length mine)) refl
-      where
-        go : (v : Bool) → ltb (place_in k mine) (length mine) ≡ v → place_in k mine < size
-        go true w = omega (arith, ltb-true (place_in k mine) (length mine) w, mine_size)
-        go false w = let z : ◌≡◌ {A = Bool} false true = (rw w at e) in absurd (false≢true z)
+      -- a place that has it
+      pub at_inside : b ≡ true → place_in k mine < size
+      at_inside e = go (ltb (place_in k mine) (length mine)) refl
+        where
+          go : (v : Bool) → ltb (place_in k mine) (length mine) ≡ v → place_in k mine < size
+          go true w = omega (arith, ltb-true (place_in k mine) (length mine) w, mine_size)
+          go false w = let z : ◌≡◌ {A = Bool} false true = (rw w at (sym has_here ∙ e)) in absurd (false≢true z)
 
-    pub at_most : has_in k mine ≡ true → at < from + size
-    at_most e = omega (arith, place_here, at-inside e)
+      pub seen_here : b ≡ true → Some (announcement (get_or a.tags at 0) (get_or a.identities at 0) (get_or a.columns at 0)) ≡ seen_in k mine
+      seen_here e = rw (sym has_here ∙ e, place_here) (ap found_in (sym (mine_at (place_in k mine) (at_inside e))))
 
-    pub seen_here : has_in k mine ≡ true → Found (get_or tags at 0) (get_or identities at 0) (get_or columns at 0) ≡ seen_in k mine
-    seen_here e = rw (e, place_here) (ap found_in (sym (mine_at (place_in k mine) (at-inside e))))
-
-    pub seen_none : has_in k mine ≡ false → Missing ≡ seen_in k mine
-    seen_none e = rw e
+      pub seen_none : b ≡ false → None ≡ seen_in k mine
+      seen_none e = rw (sym has_here ∙ e)
 
 -- A CHANGE OF THE ROWS THERE
 
@@ -183,9 +181,32 @@ module _ (from size behind : ℕ) (old : List Row) (fits : from + size + behind 
         let q : after ≡ table = rw (e, f) in
         rw q unchanged
 
--- a table that has the arrays for itself
-pub whole : (size : ℕ) (m : List Row) (count : ℕ) (old rows : List Row) → Leaves 0 size 0 m count old rows → rows ≡ over m old
-whole size m count old rows e = e.content ∙ ap (λ (l : List Row). over l old) (append-nil m)
+-- a row put where a search of the arrays ended
+module _ (a : Announcements) (from size behind : ℕ) (small : length a.keys ≡ 256) (fits : from + size + behind ≤ 256) (r : Row) (at : ℕ) (place : at ≡ seek 9 (λ i. get_or a.keys i 0) r.key from size)
+    (b : Bool) (test : b ≡ ltb at (from + size) && eqb (get_or a.keys at 0) r.key) where
+  inside : from + size ≤ length a.keys
+  inside = omega arith
+
+  all : from + size + behind ≤ length (row_list a)
+  all = omega (arith, row_list_length a)
+
+  abbrev put : List Row
+  put = put_row (room_beside from size behind (row_list a)) r (part from size (row_list a))
+
+  here : at ≡ from + place_in r.key (part from size (row_list a))
+  here = place_here a from size inside r.key at place
+
+  has : b ≡ has_in r.key (part from size (row_list a))
+  has = has_here a from size inside r.key at place b test
+
+  pub put_there : b ≡ true → Leaves from size behind put size (row_list a) (set (row_list a) at r)
+  put_there e = put_known from size behind (row_list a) all r at here (sym has ∙ e) (at_inside a from size inside r.key at place b test e)
+
+  pub put_between : b ≡ false → (n : ℕ) → n ≡ from + size + behind → n < 256 → Leaves from size behind put (size + 1) (row_list a) (over (insert_at at r (take n (row_list a))) (row_list a))
+  put_between e n q h = rw q (put-new from size behind (row_list a) all r at here (sym has ∙ e) (omega arith) (place_most a from size inside r.key at place))
+
+  pub put_nowhere : b ≡ false → 256 ≤ from + size + behind → Leaves from size behind put size (row_list a) (row_list a)
+  put_nowhere e h = put-none from size behind (row_list a) all r at here (sym has ∙ e) h
 
 -- NUMBERS THAT GO PAST THE ARRAYS end with them
 module _ (from size behind start mine others : ℕ) (l : List Row) (n : length l ≡ 256) (e : start ≡ min from 256) (f : mine ≡ min size (256 - start)) where
@@ -228,3 +249,16 @@ module _ (from size behind start mine others : ℕ) (l : List Row) (n : length l
 
   pub leaves_clamped : others ≡ min behind (256 - start - mine) → (m : List Row) (count : ℕ) (rows : List Row) → Leaves start mine others m count l rows → Leaves from size behind m count l rows
   leaves_clamped g m count rows e = record { number = e.number; content = rw (← take_clamped, ← others_clamped g) e.content }
+
+-- A TABLE THAT HAS THE ARRAYS FOR ITSELF
+module _ (r : Range) (rows : ℕ) (l : List Row) (n : length l ≡ 256) (e : r.from ≡ 0) (f : r.size ≡ min rows (256 - r.from)) (g : r.behind ≡ min 0 (256 - r.from - r.size)) where
+  pub whole_part : part r.from r.size l ≡ take rows l
+  whole_part = part_clamped 0 rows 0 r.from r.size r.behind l n e f
+
+  pub whole_room : room_beside r.from r.size r.behind l ≡ 256
+  whole_room = rw (take_clamped 0 rows 0 r.from r.size r.behind l n e f, others_clamped 0 rows 0 r.from r.size r.behind l n e f g)
+
+  pub whole_leaves : (m : List Row) (count : ℕ) (now : List Row) → Leaves r.from r.size r.behind m count l now → (count ≡ length m) × (now ≡ over m l)
+  whole_leaves m count now s =
+      let k = leaves_clamped 0 rows 0 r.from r.size r.behind l n e f g m count now s in
+      (k.number, k.content ∙ ap (λ (x : List Row). over x l) (append-nil m))

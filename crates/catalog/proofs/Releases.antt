@@ -8,7 +8,8 @@ use lib.ListN.{length, take, drop, get_or, set, length-append, length-set, drop_
 use lib.Seq.{take_at, drop_at, drop-cons, drop-drop, get_or-take, get_or-drop, length-take-le}
 use borrow.Author.Tests.{leb-false}
 use Rattle.wire.specs.Lists.{keep, change}
-use Rattle.catalog.specs.Table.{Row, no_row, over, part, within, room_beside, Leaves, is_full, has_in, place_in, insert_at, put_row, put_all, held_by, not_held_by, dropped, common_row, released}
+use Rattle.catalog.specs.declared.rows.Row.{Row}
+use Rattle.catalog.specs.Table.{no_row, over, part, within, room_beside, Leaves, is_full, has_in, place_in, insert_at, put_row, put_all, held_by, not_held_by, dropped, common_row, released}
 use Rattle.catalog.proofs.Sorted.{keep_most}
 use Rattle.catalog.proofs.Over.{over-take, over-drop, over-over, insert-length}
 use Rattle.catalog.proofs.Ranges.{table-size, room-is, within-size}

@@ -1,24 +1,38 @@
--- A search by index: the loop's laws, and what the first index says of `any`, `first_of` and `replace_first`.
-use mathlib.Core.Path.{◌≡◌, refl, ap}
+-- A search by index: where std's `position` stops, and what the first index says of `any`, `first_of` and `replace_first`.
+use mathlib.Core.Path.{◌≡◌, refl, sym, ◌∙◌, ap}
 use mathlib.Core.List.{List, [], ◌∷◌}
-use mathlib.Core.Bool.{Bool, true, false, cond, ◌||◌}
-use Prim.Native.Nat.{ℕ, zero, suc, ◌+◌, ◌≤◌, ◌<◌}
-use native.Mathlib.Numerals.{add-one}
+use mathlib.Core.Bool.{Bool, true, false, cond, not, ◌||◌}
+use Prim.Native.Nat.{ℕ, suc, ◌+◌, ◌≤◌, ◌<◌}
 use native.Mathlib.Omega.{arith}
-use lib.ListN.{length, drop, get_or, set, drop_of_length-le}
-use lib.Seq.{drop-cons}
+use lib.Dec.{ltb}
+use lib.ListN.{length, get_or, set}
+use borrow.Author.Tests.{ltb-true, ltb-false}
+use Rattle.std.specs.Prelude.{Some, None}
+use Rattle.std.specs.List.{position, position_or_len}
 use Rattle.wire.specs.Lists.{any, replace_first, first_of, index_of}
 
-module _ {A : Type 0} (p : A → Bool) (d : A) where
-  pub index_hit : (l : List A) (i n : ℕ) → i < length l → p (get_or l i d) ≡ true → i + index_of p (drop i l) ≡ n → i ≡ n
-  index_hit l i n h e = rw (drop-cons l i d, e) (λ s. omega (arith, s))
-
-  pub index_miss : (l : List A) (i n : ℕ) → i < length l → p (get_or l i d) ≡ false → i + index_of p (drop i l) ≡ n → (i + 1) + index_of p (drop (i + 1) l) ≡ n
-  index_miss l i n h e = rw (drop-cons l i d, e, add-one) (λ s. omega (arith, s))
-
 module _ {A : Type 0} (p : A → Bool) where
-  pub index_end : (l : List A) (i n : ℕ) → length l ≤ i → i + index_of p (drop i l) ≡ n → i ≡ n
-  index_end l i n h = rw (drop_of_length-le l {i = i} h) (λ s. omega (arith, s))
+  index_is : (l : List A) → position_or_len p l ≡ index_of p l
+  index_is [] = refl
+  index_is (a ∷ l) = go (p a) (index_is l)
+    where
+      go : (v : Bool) → position_or_len p l ≡ index_of p l → cond (not v) (1 + position_or_len p l) 0 ≡ cond v 0 (suc (index_of p l))
+      go true r = refl
+      go false r = rw r (omega arith)
+
+  pub position_some : (l : List A) (i : ℕ) → position p l ≡ Some i → (i ≡ index_of p l) × (i < length l)
+  position_some l i = go (ltb (position_or_len p l) (length l)) refl
+    where
+      go : (v : Bool) → ltb (position_or_len p l) (length l) ≡ v → cond v (Some (position_or_len p l)) None ≡ Some i → (i ≡ index_of p l) × (i < length l)
+      go true w e = let k : position_or_len p l ≡ i = cc in (sym k ∙ index_is l, omega (arith, ltb-true (position_or_len p l) (length l) w))
+      go false w e = cc
+
+  pub position_none : (l : List A) → position p l ≡ None → length l ≤ index_of p l
+  position_none l = go (ltb (position_or_len p l) (length l)) refl
+    where
+      go : (v : Bool) → ltb (position_or_len p l) (length l) ≡ v → cond v (Some (position_or_len p l)) None ≡ None → length l ≤ index_of p l
+      go true w e = cc
+      go false w e = omega (arith, ltb-false (position_or_len p l) (length l) w, index_is l)
 
   -- a first index, or none
   pub index_most : (l : List A) → index_of p l ≤ length l
@@ -70,10 +84,3 @@ module _ {A B : Type 0} (out : A → B) (none : B) (p : A → Bool) (d : A) wher
       go : (v : Bool) → p a ≡ v → (length l ≤ index_of p l → first_of out none p l ≡ none) → cond (p a) (out a) (first_of out none p l) ≡ none
       go true w r = let s = rw w at h in absurd (omega (arith, s))
       go false w r = rw w (r (let s = rw w at h in omega (arith, s)))
-
--- a store that a test cannot tell
-module _ {A : Type 0} (p : A → Bool) (b d : A) where
-  pub any-set : (l : List A) (i : ℕ) → p b ≡ p (get_or l i d) → any p (set l i b) ≡ any p l
-  any-set [] i e = refl
-  any-set (a ∷ l) zero e = rw e
-  any-set (a ∷ l) (suc i) e = rw (any-set l i e)

@@ -7,10 +7,12 @@ use native.Mathlib.Omega.{arith}
 use lib.Dec.{eqb, ltb, leb, leb-suc-suc}
 use lib.ListN.{length, get_or, set}
 use borrow.Author.Tests.{ltb-true, ltb-false, leb-true, leb-false, eqb-true, eqb-false, eq-eqb, ne_eqb, lt-ltb, le-ltb, le-leb, lt-leb}
-use Rattle.catalog.specs.declared.Lookup.{Lookup}
-use Rattle.catalog.specs.declared.Lookup.TheVariants.{Missing}
+use Rattle.std.specs.Prelude.{Option}
+use Rattle.catalog.specs.declared.announcements.Announcement.{Announcement}
+use Rattle.std.specs.Prelude.{None}
 use Rattle.wire.specs.Lists.{any, tally, keep, change, index_of}
-use Rattle.catalog.specs.Table.{Row, no_row, key_at, place_in, is_at, found_in, seen_in, has_in, is_full, insert_at, put_row, put_all, held_by, dropped, common_row, Above, Sorted, key_is, lookup_in, key_of, Small}
+use Rattle.catalog.specs.declared.rows.Row.{Row}
+use Rattle.catalog.specs.Table.{no_row, key_at, place_in, is_at, found_in, seen_in, has_in, is_full, insert_at, put_row, put_all, held_by, dropped, common_row, Above, Sorted, key_is, lookup_in, key_of, Small}
 use Rattle.catalog.proofs.Seek.{seek_finds}
 use Rattle.catalog.proofs.Searches.{index_most}
 
@@ -57,11 +59,11 @@ module _ (k : ℕ) where
   above_none j [] h s = refl
   above_none j (a ∷ l) h s = rw (ne_eqb a.key k (λ e. omega (arith, e, s.0))) (above_none j l h s.1)
 
-  none_found : (l : List Row) → any (key_is k) l ≡ false → lookup_in (key_is k) l ≡ Missing
+  none_found : (l : List Row) → any (key_is k) l ≡ false → lookup_in (key_is k) l ≡ None
   none_found [] e = refl
   none_found (a ∷ l) e = go (eqb a.key k) refl (none_found l)
     where
-      go : (v : Bool) → eqb a.key k ≡ v → (any (key_is k) l ≡ false → lookup_in (key_is k) l ≡ Missing) → lookup_in (key_is k) (a ∷ l) ≡ Missing
+      go : (v : Bool) → eqb a.key k ≡ v → (any (key_is k) l ≡ false → lookup_in (key_is k) l ≡ None) → lookup_in (key_is k) (a ∷ l) ≡ None
       go true w r = absurd (true≢false (rw w at e))
       go false w r = rw w (r (rw w at e))
 
@@ -91,12 +93,12 @@ module _ (k : ℕ) where
           (λ h. rw (le-leb k a.key (omega (arith, h)), at_first a l, eq-eqb a.key k h))
           (λ h. rw (le-leb k a.key (omega (arith, h)), at_first a l, ne_eqb a.key k (λ e. omega (arith, e, h))) (sym (above_none a.key l (omega (arith, h)) s.0)))
 
-  seen_is : (l : List Row) → Sorted l → cond (is_at k (index_of (not_below k) l) l) (found_in (get_or l (index_of (not_below k) l) no_row)) Missing ≡ lookup_in (key_is k) l
+  seen_is : (l : List Row) → Sorted l → cond (is_at k (index_of (not_below k) l) l) (found_in (get_or l (index_of (not_below k) l) no_row)) None ≡ lookup_in (key_is k) l
   seen_is [] s = refl
   seen_is (a ∷ l) s = go (seen_is l s.1)
     where
-      go : cond (is_at k (index_of (not_below k) l) l) (found_in (get_or l (index_of (not_below k) l) no_row)) Missing ≡ lookup_in (key_is k) l
-          → cond (is_at k (index_of (not_below k) (a ∷ l)) (a ∷ l)) (found_in (get_or (a ∷ l) (index_of (not_below k) (a ∷ l)) no_row)) Missing ≡ lookup_in (key_is k) (a ∷ l)
+      go : cond (is_at k (index_of (not_below k) l) l) (found_in (get_or l (index_of (not_below k) l) no_row)) None ≡ lookup_in (key_is k) l
+          → cond (is_at k (index_of (not_below k) (a ∷ l)) (a ∷ l)) (found_in (get_or (a ∷ l) (index_of (not_below k) (a ∷ l)) no_row)) None ≡ lookup_in (key_is k) (a ∷ l)
       go r = three _ a.key
           (λ h. rw (lt-leb k a.key h, ne_eqb a.key k (λ e. omega (arith, e, h)), at-later (index_of (not_below k) l) a l) r)
           (λ h. rw (le-leb k a.key (omega (arith, h)), at_first a l, eq-eqb a.key k h))
@@ -245,7 +247,7 @@ module _ (room : ℕ) (small : room ≤ 256) where
   all_found k (r ∷ rs) l q s n =
       let m = put_longer r room l s (omega (arith, n, small)) (λ e. omega (arith, n)) in
       all_found k rs (put_row room r l) q.1 (put-sorted r room l s (omega (arith, n, small)) (λ e. omega (arith, n))) (omega (arith, n, m))
-      ∙ ap (λ (x : Lookup). cond (any (key_is k) rs) (lookup_in (key_is k) rs) x) (put_found r room l s (omega (arith, n, small)) (λ e. omega (arith, n)) k)
+      ∙ ap (λ (x : Option Announcement). cond (any (key_is k) rs) (lookup_in (key_is k) rs) x) (put_found r room l s (omega (arith, n, small)) (λ e. omega (arith, n)) k)
       ∙ go (eqb r.key k) refl
     where
       go : (v : Bool) → eqb r.key k ≡ v → cond (any (key_is k) rs) (lookup_in (key_is k) rs) (cond (eqb r.key k) (found_in r) (lookup_in (key_is k) l))
@@ -297,12 +299,12 @@ module _ (x t o : ℕ) (small : Small o) where
   key-held : (a : Row) → a.key ≡ key_of t o → a.key / 4294967296 ≡ t
   key-held a e = omega arith
 
-  pub drop_own : (l : List Row) → x ≡ t → lookup_in (key_is (key_of t o)) (dropped x l) ≡ Missing
+  pub drop_own : (l : List Row) → x ≡ t → lookup_in (key_is (key_of t o)) (dropped x l) ≡ None
   drop_own [] e = refl
   drop_own (a ∷ l) e = go (eqb (a.key / 4294967296) x) (eqb a.key (key_of t o)) refl refl (drop_own l e)
     where
-      go : (u v : Bool) → eqb (a.key / 4294967296) x ≡ u → eqb a.key (key_of t o) ≡ v → lookup_in (key_is (key_of t o)) (dropped x l) ≡ Missing
-          → lookup_in (key_is (key_of t o)) (cond (not (eqb (a.key / 4294967296) x)) (a ∷ dropped x l) (dropped x l)) ≡ Missing
+      go : (u v : Bool) → eqb (a.key / 4294967296) x ≡ u → eqb a.key (key_of t o) ≡ v → lookup_in (key_is (key_of t o)) (dropped x l) ≡ None
+          → lookup_in (key_is (key_of t o)) (cond (not (eqb (a.key / 4294967296) x)) (a ∷ dropped x l) (dropped x l)) ≡ None
       go true v w w' r = rw w r
       go false true w w' r = absurd (eqb-false (a.key / 4294967296) x w (key-held a (eqb-true a.key (key_of t o) w') ∙ sym e))
       go false false w w' r = rw (w, w') r

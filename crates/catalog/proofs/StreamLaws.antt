@@ -4,13 +4,16 @@ use mathlib.Core.List.{List, [], ◌∷◌, ◌++◌}
 use mathlib.Core.Bool.{Bool, true, false, cond, not}
 use Prim.Native.Nat.{ℕ, zero, suc, ◌+◌, ◌≤◌, ◌<◌}
 use native.Mathlib.Omega.{arith}
-use lib.Dec.{eqb, ltb}
+use lib.Dec.{eqb}
 use lib.ListN.{length, take, drop, get_or, set, length-set}
 use lib.Seq.{ext_get_or, set_out}
-use borrow.Author.Tests.{ltb-true, ltb-false}
 use Rattle.wire.specs.Lists.{any, index_of, replace_first, change, each, first_of, first, rest}
 use Rattle.catalog.specs.Table.{Stream, streams_of, is, xid_is, changed_of, free_stream, new_stream, marked}
-use Rattle.catalog.proofs.Searches.{any_at, any_not, swap_at, first-at, first_not}
+use Rattle.std.specs.Prelude.{Option, Some, None, is_some}
+use Rattle.std.specs.List.{position}
+use Rattle.catalog.specs.declared.streams.Streams.{Streams}
+use Rattle.catalog.specs.Opens.{streams, places_in, placed}
+use Rattle.catalog.proofs.Searches.{position_some, position_none, any_at, any_not, swap_at, first-at, first_not}
 use Rattle.catalog.proofs.Loops.{change_turn, change_end}
 use Rattle.catalog.proofs.Columns.{each-length, each_at, first-is, rest_at, rest_short, first-set, rest-set, first-later, rest-later}
 
@@ -55,68 +58,86 @@ module _ (xids marks : List ℕ) where
   pub marks_of : length marks ≡ length xids → each (λ r. r.changed) (streams_of xids marks) ≡ marks
   marks_of e = column (λ r. r.changed) marks e (λ i. refl)
 
-pub any-xid : (x : ℕ) (xids marks : List ℕ) → any (xid_is x) (streams_of xids marks) ≡ any (is x) xids
-any-xid x [] marks = refl
-any-xid x (a ∷ xids) marks = rw (any-xid x xids (rest marks))
+-- arrays that were stored
+pub placed-is : (x m : List ℕ) (l : List Stream) → length m ≡ length x → streams_of x m ≡ l → streams x m ≡ placed l
+placed-is x m l n e = rw (← e, xids_of x m, marks_of x m n)
 
 pub index_xid : (x : ℕ) (xids marks : List ℕ) → index_of (xid_is x) (streams_of xids marks) ≡ index_of (is x) xids
 index_xid x [] marks = refl
 index_xid x (a ∷ xids) marks = rw (index_xid x xids (rest marks))
 
-module _ (xids marks : List ℕ) (a b at : ℕ) (q : at ≡ index_of (is a) xids) where
-  pub swap_set : set (streams_of xids marks) at (new_stream b) ≡ replace_first (xid_is a) (new_stream b) (streams_of xids marks)
-  swap_set = ap (λ (k : ℕ). set (streams_of xids marks) k (new_stream b)) (q ∙ sym (index_xid a xids marks)) ∙ sym (swap_at (xid_is a) (new_stream b) (streams_of xids marks))
+-- what a search of the xids says of the places
+module _ (s : Streams) (x : ℕ) (found : Option ℕ) (is_position : found ≡ position (is x) s.xids) where
+  at_place : (at : ℕ) → found ≡ Some at → (at ≡ index_of (xid_is x) (places_in s)) × (at < length (places_in s))
+  at_place at e = let k = position_some (is x) s.xids at (sym is_position ∙ e) in
+      (k.0 ∙ sym (index_xid x s.xids s.marks), omega (arith, k.1, streams-length s.xids s.marks))
 
-  pub swap_none : length xids ≡ 16 → 16 ≤ at → streams_of xids marks ≡ replace_first (xid_is a) (new_stream b) (streams_of xids marks)
-  swap_none n h = sym (set_out (streams_of xids marks) at (new_stream b) (omega (arith, streams-length xids marks))) ∙ swap_set
+  no_place : found ≡ None → length (places_in s) ≤ index_of (xid_is x) (places_in s)
+  no_place e = omega (arith, position_none (is x) s.xids (sym is_position ∙ e), index_xid x s.xids s.marks, streams-length s.xids s.marks)
 
-module _ (xids marks : List ℕ) (x at : ℕ) (q : at ≡ index_of (is x) xids) (n : length xids ≡ 16) where
-  same : at ≡ index_of (xid_is x) (streams_of xids marks)
-  same = q ∙ sym (index_xid x xids marks)
+  pub any_found : is_some found ≡ any (xid_is x) (places_in s)
+  any_found = go found refl
+    where
+      go : (o : Option ℕ) → found ≡ o → is_some o ≡ any (xid_is x) (places_in s)
+      go (Some at) e = let k = at_place at e in sym (any_at (xid_is x) (places_in s) (omega arith))
+      go None e = sym (any_not (xid_is x) (places_in s) (no_place e))
 
-  pub mark_at : at < 16 → not (eqb (get_or marks at 0) 0) ≡ first_of changed_of false (xid_is x) (streams_of xids marks)
-  mark_at h =
-      ap changed_of (sym (streams-at xids marks at (omega arith)))
-      ∙ ap (λ (k : ℕ). changed_of (get_or (streams_of xids marks) k free_stream)) same
-      ∙ sym (first-at changed_of false (xid_is x) free_stream (streams_of xids marks) (omega (arith, same, streams-length xids marks)))
+  pub mark_at : (at : ℕ) → found ≡ Some at → not (eqb (get_or s.marks at 0) 0) ≡ first_of changed_of false (xid_is x) (places_in s)
+  mark_at at e = let k = at_place at e in
+      ap changed_of (sym (streams-at s.xids s.marks at (omega (arith, k.1, streams-length s.xids s.marks))))
+      ∙ ap (λ (i : ℕ). changed_of (get_or (places_in s) i free_stream)) k.0
+      ∙ sym (first-at changed_of false (xid_is x) free_stream (places_in s) (omega arith))
 
-  pub mark_none : 16 ≤ at → false ≡ first_of changed_of false (xid_is x) (streams_of xids marks)
-  mark_none h = sym (first_not changed_of false (xid_is x) free_stream (streams_of xids marks) (omega (arith, same, streams-length xids marks)))
+  pub mark_none : found ≡ None → false ≡ first_of changed_of false (xid_is x) (places_in s)
+  mark_none e = sym (first_not changed_of false (xid_is x) free_stream (places_in s) (no_place e))
 
-pub any_in : {A : Type 0} (p : A → Bool) (n : ℕ) (l : List A) (i : ℕ) → i ≡ index_of p l → length l ≡ n → ltb i n ≡ any p l
-any_in p n l i e k = go (ltb i n) refl
-  where
-    go : (v : Bool) → ltb i n ≡ v → v ≡ any p l
-    go true w = sym (any_at p l (omega (arith, e, k, ltb-true i n w)))
-    go false w = sym (any_not p l (omega (arith, e, k, ltb-false i n w)))
+  module _ (n : length s.xids ≡ 16) (m : length s.marks ≡ 16) (b : ℕ) where
+    pub swap_set : (at : ℕ) → found ≡ Some at → streams (set s.xids at b) (set s.marks at 0) ≡ placed (replace_first (xid_is x) (new_stream b) (places_in s))
+    swap_set at e = let k = at_place at e in
+        placed-is (set s.xids at b) (set s.marks at 0) (replace_first (xid_is x) (new_stream b) (places_in s)) (omega (arith, length-set s.xids at b, length-set s.marks at 0))
+        (streams-set s.xids s.marks at b 0 (omega (arith, k.1, streams-length s.xids s.marks))
+        ∙ ap (λ (i : ℕ). set (places_in s) i (new_stream b)) k.0 ∙ sym (swap_at (xid_is x) (new_stream b) (places_in s)))
+
+    pub swap_none : found ≡ None → s ≡ placed (replace_first (xid_is x) (new_stream b) (places_in s))
+    swap_none e =
+        placed-is s.xids s.marks (replace_first (xid_is x) (new_stream b) (places_in s)) (omega arith)
+        (sym (set_out (places_in s) (index_of (xid_is x) (places_in s)) (new_stream b) (no_place e)) ∙ sym (swap_at (xid_is x) (new_stream b) (places_in s)))
 
 -- marking
-pub record Marking (t : ℕ) (xids old marks : List ℕ) (i : ℕ) : Type 0 where
-  pub most : i ≤ 16
-  pub long : length xids ≡ 16
-  pub sized : length marks ≡ 16
-  pub left : take i (streams_of xids marks) ++ change (marked t) (drop i (streams_of xids marks)) ≡ change (marked t) (streams_of xids old)
+pub record Marking (t : ℕ) (old now : Streams) (i : ℕ) : Type 0 where
+  pub same : now.xids ≡ old.xids
+  pub sized : length now.marks ≡ 16
+  pub left : take i (places_in now) ++ change (marked t) (drop i (places_in now)) ≡ change (marked t) (places_in old)
 
-module _ (t : ℕ) (xids old marks : List ℕ) (i : ℕ) (m : Marking t xids old marks i) where
-  one : (x k : ℕ) → marked t (stream x k) ≡ stream x (cond (eqb x t) 1 k)
-  one x k = go (eqb x t)
-    where
-      go : (v : Bool) → cond v (stream x 1) (stream x k) ≡ stream x (cond v 1 k)
-      go true = refl
-      go false = refl
+module _ (t : ℕ) (old : Streams) (long : length old.xids ≡ 16) where
+  pub mark_start : length old.marks ≡ 16 → Marking t old old 0
+  mark_start n = record { same = refl; sized = n; left = refl }
 
-  stored : i < 16 → streams_of xids (set marks i (cond (eqb (get_or xids i 0) t) 1 (get_or marks i 0))) ≡ set (streams_of xids marks) i (marked t (get_or (streams_of xids marks) i free_stream))
-  stored h =
-      streams_mark xids marks i (cond (eqb (get_or xids i 0) t) 1 (get_or marks i 0)) (omega (arith, m.sized))
-      ∙ ap (λ (s : Stream). set (streams_of xids marks) i s) (sym (one (get_or xids i 0) (get_or marks i 0)) ∙ ap (marked t) (sym (streams-at xids marks i (omega (arith, m.long)))))
+  module _ (now : Streams) (i : ℕ) (m : Marking t old now i) where
+    one : (x k : ℕ) → marked t (stream x k) ≡ stream x (cond (eqb x t) 1 k)
+    one x k = go (eqb x t)
+      where
+        go : (v : Bool) → cond v (stream x 1) (stream x k) ≡ stream x (cond v 1 k)
+        go true = refl
+        go false = refl
 
-  pub mark_turn : i < 16 → (v : ℕ) → v ≡ cond (eqb (get_or xids i 0) t) 1 (get_or marks i 0) → Marking t xids old (set marks i v) (i + 1)
-  mark_turn h v e = record {
-    most = omega arith;
-    long = m.long;
-    sized = length-set marks i v ∙ m.sized;
-    left = rw (e, stored h) (change_turn (marked t) free_stream (streams_of xids marks) i (omega (arith, m.long, streams-length xids marks)) ∙ m.left);
-  }
+    many : length (places_in now) ≡ 16
+    many = streams-length now.xids now.marks ∙ ap length m.same ∙ long
 
-  pub mark_end : 16 ≤ i → streams_of xids marks ≡ change (marked t) (streams_of xids old)
-  mark_end h = sym (change_end (marked t) free_stream (streams_of xids marks) i (omega (arith, m.long, streams-length xids marks))) ∙ m.left
+    stored : i < 16 → streams_of now.xids (set now.marks i (cond (eqb (get_or now.xids i 0) t) 1 (get_or now.marks i 0))) ≡ set (places_in now) i (marked t (get_or (places_in now) i free_stream))
+    stored h =
+        streams_mark now.xids now.marks i (cond (eqb (get_or now.xids i 0) t) 1 (get_or now.marks i 0)) (omega (arith, m.sized))
+        ∙ ap (λ (s : Stream). set (places_in now) i s)
+        (sym (one (get_or now.xids i 0) (get_or now.marks i 0)) ∙ ap (marked t) (sym (streams-at now.xids now.marks i (omega (arith, many, streams-length now.xids now.marks)))))
+
+    pub mark_turn : i < 16 → (v : ℕ) → v ≡ cond (eqb (get_or now.xids i 0) t) 1 (get_or now.marks i 0) → Marking t old (streams now.xids (set now.marks i v)) (i + 1)
+    mark_turn h v e = record {
+      same = m.same;
+      sized = length-set now.marks i v ∙ m.sized;
+      left = rw (e, stored h) (change_turn (marked t) free_stream (places_in now) i (omega (arith, many)) ∙ m.left);
+    }
+
+    pub mark_end : 16 ≤ i → now ≡ placed (change (marked t) (places_in old))
+    mark_end h =
+        placed-is now.xids now.marks (change (marked t) (places_in old)) (m.sized ∙ sym (ap length m.same ∙ long))
+        (sym (change_end (marked t) free_stream (places_in now) i (omega (arith, many))) ∙ m.left)

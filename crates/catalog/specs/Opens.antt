@@ -1,13 +1,10 @@
 -- For contracts only. THE OPEN STREAMED TRANSACTIONS as everything above knows them: by these names, which are shut, and by the laws of `proofs/Opens.antt`.
 use Rattle.std.specs.Prelude.{ℕ, ◌-◌, List, Bool, false, not, ◌&&◌, eqb, replicate}
 use Rattle.wire.specs.Lists.{any, tally, each, first_of, replace_first, change}
+use Rattle.catalog.specs.declared.streams.Streams.{Streams}
 use Rattle.catalog.specs.Table.{Stream, streams_of, xid_is, changed_of, free_stream, new_stream, marked}
 
 -- two arrays of numbers, whatever is in them
-pub record Streams : Type 0 where
-  pub xids : List ℕ
-  pub marks : List ℕ
-
 abbrev pub streams : List ℕ → List ℕ → Streams
 streams x m = record { xids = x; marks = m }
 

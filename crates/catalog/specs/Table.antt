@@ -1,16 +1,11 @@
 -- For contracts only. The table of announcements: four lists of numbers, seen as one list of rows. The rows in use stand at the front, sorted by their keys.
-use Rattle.std.specs.Prelude.{ℕ, zero, suc, ◌+◌, ◌*◌, ◌-◌, ◌/◌, ◌%◌, ◌<◌, ◌≡◌, List, [], ◌∷◌, ◌++◌, Bool, cond, not, ◌&&◌, eqb, ltb, leb, length, get_or, set, take, drop}
+use Rattle.std.specs.Prelude.{ℕ, zero, suc, ◌+◌, ◌*◌, ◌-◌, ◌/◌, ◌%◌, ◌<◌, ◌≡◌, List, [], ◌∷◌, ◌++◌, Bool, cond, not, ◌&&◌, eqb, ltb, leb, length, get_or, set, take, drop, Option, Some, None}
 use Rattle.wire.specs.Lists.{first_of, keep, change, first, rest}
-use Rattle.catalog.specs.declared.Lookup.{Lookup}
-use Rattle.catalog.specs.declared.Lookup.TheVariants.{Missing, Found}
+use Rattle.catalog.specs.declared.announcements.Announcement.{Announcement}
+use Rattle.catalog.specs.declared.announcements.Announcements.{Announcements}
+use Rattle.catalog.specs.declared.rows.Row.{Row}
 
 -- a row's key is its holder and its OID in one number
-pub record Row : Type 0 where
-  pub key : ℕ
-  pub tag : ℕ
-  pub identity : ℕ
-  pub columns : ℕ
-
 abbrev pub row : ℕ → ℕ → ℕ → ℕ → Row
 row k g i c = record { key = k; tag = g; identity = i; columns = c }
 
@@ -36,12 +31,15 @@ rows_of [] tags identities columns = []
 rows_of (k ∷ keys) tags identities columns =
     row k (first tags) (first identities) (first columns) ∷ rows_of keys (rest tags) (rest identities) (rest columns)
 
--- the lengths that arrays of 256 have
-pub record Sized (keys tags identities columns : List ℕ) : Type 0 where
-  pub keys_256 : length keys ≡ 256
-  pub tags_256 : length tags ≡ 256
-  pub identities_256 : length identities ≡ 256
-  pub columns_256 : length columns ≡ 256
+abbrev pub row_list : Announcements → List Row
+row_list a = rows_of a.keys a.tags a.identities a.columns
+
+-- the lengths that the arrays have
+pub record Sized (a : Announcements) : Type 0 where
+  pub keys_256 : length a.keys ≡ 256
+  pub tags_256 : length a.tags ≡ 256
+  pub identities_256 : length a.identities ≡ 256
+  pub columns_256 : length a.columns ≡ 256
 
 -- rows written from the front over what was there: behind them it is as it was
 abbrev pub over : List Row → List Row → List Row
@@ -69,12 +67,15 @@ place_in k l = seek 9 (key_at l) k 0 (length l)
 abbrev pub is_at : ℕ → ℕ → List Row → Bool
 is_at k i l = ltb i (length l) && eqb (key_at l i) k
 
-abbrev pub found_in : Row → Lookup
-found_in r = Found r.tag r.identity r.columns
+abbrev pub announcement : ℕ → ℕ → ℕ → Announcement
+announcement g i c = record { tag = g; identity = i; columns = c }
+
+abbrev pub found_in : Row → Option Announcement
+found_in r = Some (announcement r.tag r.identity r.columns)
 
 -- the announcement with a key
-abbrev pub seen_in : ℕ → List Row → Lookup
-seen_in k l = cond (is_at k (place_in k l) l) (found_in (get_or l (place_in k l) no_row)) Missing
+abbrev pub seen_in : ℕ → List Row → Option Announcement
+seen_in k l = cond (is_at k (place_in k l) l) (found_in (get_or l (place_in k l) no_row)) None
 
 abbrev pub has_in : ℕ → List Row → Bool
 has_in k l = is_at k (place_in k l) l
@@ -137,8 +138,8 @@ Sorted (r ∷ l) = Above r.key l × Sorted l
 abbrev pub key_is : ℕ → Row → Bool
 key_is k r = eqb r.key k
 
-abbrev pub lookup_in : (Row → Bool) → List Row → Lookup
-lookup_in p l = first_of found_in Missing p l
+abbrev pub lookup_in : (Row → Bool) → List Row → Option Announcement
+lookup_in p l = first_of found_in None p l
 
 -- an open streamed transaction, and a number that is not 0 where a change was accepted in it; an xid of 0 is a free place
 pub record Stream : Type 0 where

@@ -1,52 +1,43 @@
 -- For contracts only. THE TABLE OF ANNOUNCEMENTS as everything above knows it: by these names, which are shut, and by the laws of `proofs/Tables.antt`.
-use Rattle.std.specs.Prelude.{ℕ, List, Bool, true, false, cond, leb, length, take, replicate}
+use Rattle.std.specs.Prelude.{ℕ, List, cond, leb, length, take, replicate, Option, None}
 use Rattle.wire.specs.Lists.{each}
-use Rattle.catalog.specs.declared.Lookup.{Lookup}
-use Rattle.catalog.specs.declared.Lookup.TheVariants.{Missing, Found}
-use Rattle.catalog.specs.Table.{Row, row, key_of, rows_of, over, seen_in, put_row, dropped, released}
-
-abbrev pub is_found : Lookup → Bool
-is_found Missing = false
-is_found (Found g i c) = true
-
-abbrev pub or_else : Lookup → Lookup → Lookup
-or_else Missing b = b
-or_else (Found g i c) b = Found g i c
+use Rattle.catalog.specs.declared.announcements.Announcement.{Announcement}
+use Rattle.catalog.specs.declared.announcements.Announcements.{Announcements}
+use Rattle.catalog.specs.declared.rows.Row.{Row}
+use Rattle.catalog.specs.Table.{row, key_of, row_list, over, seen_in, put_row, dropped, released}
 
 -- how many rows are in use, and four arrays of numbers, whatever is in them
 pub record Table : Type 0 where
   pub count : ℕ
-  pub keys : List ℕ
-  pub tags : List ℕ
-  pub identities : List ℕ
-  pub columns : List ℕ
+  pub arrays : Announcements
 
-abbrev pub table : ℕ → List ℕ → List ℕ → List ℕ → List ℕ → Table
-table n k g i c = record { count = n; keys = k; tags = g; identities = i; columns = c }
+abbrev pub table : ℕ → Announcements → Table
+table n a = record { count = n; arrays = a }
 
 -- every row that there is room for, and those in use
 abbrev pub all_rows : Table → List Row
-all_rows t = rows_of t.keys t.tags t.identities t.columns
+all_rows t = row_list t.arrays
 
 abbrev pub rows_in : Table → List Row
 rows_in t = take t.count (all_rows t)
 
+-- rows laid down in arrays
+abbrev pub arrays_of : List Row → Announcements
+arrays_of l = record { keys = each (λ r. r.key) l; tags = each (λ r. r.tag) l; identities = each (λ r. r.identity) l; columns = each (λ r. r.columns) l }
+
 -- new rows in use: behind them it is as it was
 abbrev pub laid : Table → List Row → Table
-laid t l =
-    table
-    (length l)
-    (each (λ r. r.key) (over l (all_rows t)))
-    (each (λ r. r.tag) (over l (all_rows t)))
-    (each (λ r. r.identity) (over l (all_rows t)))
-    (each (λ r. r.columns) (over l (all_rows t)))
+laid t l = table (length l) (arrays_of (over l (all_rows t)))
+
+abbrev pub fresh_arrays : Announcements
+fresh_arrays = record { keys = replicate 256 0; tags = replicate 256 0; identities = replicate 256 0; columns = replicate 256 0 }
 
 unfoldable pub fresh_table : Table
-fresh_table = table 0 (replicate 256 0) (replicate 256 0) (replicate 256 0) (replicate 256 0)
+fresh_table = table 0 fresh_arrays
 
 -- a holder's announcement of an OID, which is a number of 32 bits
-unfoldable pub lookup : Table → ℕ → ℕ → Lookup
-lookup t holder oid = cond (leb 4294967296 oid) Missing (seen_in (key_of holder oid) (rows_in t))
+unfoldable pub lookup : Table → ℕ → ℕ → Option Announcement
+lookup t holder oid = cond (leb 4294967296 oid) None (seen_in (key_of holder oid) (rows_in t))
 
 -- how many announcements there are
 unfoldable pub used_in : Table → ℕ

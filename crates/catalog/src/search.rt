@@ -7,24 +7,18 @@ use crate::ROWS;
 // How far a holder stands from the next in a key.
 pub const HOLDER: u64 = 0x1_0000_0000;
 
-pub fn wide(x: u32) -> u64
-    ensures { result ≡ x }
-{
-    x as u64
-}
-
 pub fn key_of(holder: u32, oid: u32) -> u64
     ensures { result ≡ key_of holder oid }
 {
-    wide(holder) * HOLDER + wide(oid)
+    u64::from(holder) * HOLDER + u64::from(oid)
 }
 
 // One look: where the search goes on, with half of the places left.
 fn look(keys: &[u64; ROWS], key: u64, base: usize, size: usize) -> usize
     requires { base + size ≤ 256 }
-    ensures { (result ≡ looked (λ i. get_or keys.now i 0) key base size) × (result + size / 2 ≤ 256) }
+    ensures place { result ≡ looked (λ i. get_or keys.now i 0) key base size }
+    ensures fits { result + size / 2 ≤ 256 }
 {
-    crate::sized_keys(keys);
     if size == 0 {
         return base;
     }
@@ -32,7 +26,8 @@ fn look(keys: &[u64; ROWS], key: u64, base: usize, size: usize) -> usize
     if keys[mid] < key { mid + 1 } else { base }
 }
 
-// The looks stand one by one: a loop over them is compiled to a jump for each look, which is a guess.
+// The looks stand one by one, here and in `search`: in a `for` over them each is compiled to a jump, which is a guess and slower
+// (docs/PERFORMANCE.md, request 114).
 fn four_looks(keys: &[u64; ROWS], key: u64, base: usize, size: usize) -> usize
     requires { base + size ≤ 256 }
     ensures { result ≡ seek 4 (λ i. get_or keys.now i 0) key base size }
@@ -72,6 +67,5 @@ pub fn is_at(keys: &[u64; ROWS], at: usize, end: usize, key: u64) -> bool
     requires { end ≤ 256 }
     ensures { result ≡ ltb at end && eqb (get_or keys.now at 0) key }
 {
-    crate::sized_keys(keys);
-    if at < end { keys[at] == key } else { false }
+    at < end && keys[at] == key
 }

@@ -1,4 +1,3 @@
-pub mod Without
 pub mod Parts
 pub mod Whole
 pub mod Visits

@@ -1,13 +1,12 @@
 -- To be believed (stepping). Stepping through all of a tuple, a Relation's columns or a Truncate's OIDs: what is stepped through, and what many steps give.
 use Rattle.std.specs.Prelude.{ℕ, zero, suc, List, [], ◌∷◌}
-use Rattle.wire.specs.declared.Cursor.{Cursor}
-use Rattle.message.specs.declared.Read.{Read}
+use Rattle.wire.specs.Cursors.{Cursor}
+use Rattle.message.specs.Messages.{Read}
 use Rattle.message.specs.Layout.{Field, column, id, read_group}
 use Rattle.message.specs.Kinds.{column_fields}
 use Rattle.columns.specs.declared.Position.{Position}
-use Rattle.columns.specs.declared.Started.{Started}
 use Rattle.columns.specs.declared.Which.{Which}
-use Rattle.columns.specs.Starts.{tuple_start, relation_start, oid_start}
+use Rattle.columns.specs.Starts.{Started, tuple_start, relation_start, oid_start}
 use Rattle.columns.specs.Steps.{StepAnswer, over, gives, refused, step_at, after}
 
 -- what is stepped through

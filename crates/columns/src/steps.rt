@@ -1,159 +1,103 @@
 // One step from any position: what stands there, and the position after it.
-ghost use Rattle.std.specs.Prelude.{◌≡◌};
-ghost use Rattle.columns.specs.Steps.{tuple_step, relation_step, oid_step};
-ghost use Rattle.columns.specs.Code.{column_field, relation_field};
+ghost use Rattle.std.specs.Prelude.{◌≡◌, ℕ, List, [], ◌∷◌};
+ghost use Rattle.wire.specs.Readers.{Reads};
+ghost use Rattle.message.specs.Layout.{Field, column, id, read_group};
+ghost use Rattle.message.specs.Kinds.{column_fields};
+ghost use Rattle.columns.specs.Steps.{column_of, relation_column_of, relation_of, item_step};
+ghost use Rattle.columns.specs.Code.{item_field};
 
-use crate::{
-    Column, ColumnField, OidStep, Position, RelationColumn, RelationField, RelationStep,
-    TruncatedRelation, TupleStep,
-};
+use crate::{Column, Position, RelationColumn, Step, TruncatedRelation};
 use message::fields;
-use wire::{Cursor, Field8, Field32, FieldSpan, Refusal, Span};
+use wire::{Reader, Refusal, Span};
 
-// A column of a tuple.
-fn column_field(s: &[u8], c: Cursor) -> ColumnField
-    ensures { result ≡ column_field s.now c }
-{
-    let Field8 {
-        value: letter,
-        next,
-    } = fields::column_letter(s, c);
-    if fields::has_value(letter) {
-        let FieldSpan { value, next } = wire::value(s, next);
-        return ColumnField {
+// What can be stepped through: a group of fields, and what its numbers make.
+pub trait Item: Copy {
+    ghost fields: { List Field };
+
+    ghost of: { List ℕ → Self };
+
+    fn read(r: &mut Reader) -> Result<Self, Refusal>
+        ensures { Reads (item_field fields of r.old.bytes.now r.old.next) r.old result r.new };
+}
+
+impl Item for Column {
+    ghost fields = { column ∷ [] };
+
+    ghost of = { column_of };
+
+    #[tactic(auto, using(reader::proofs::Stops::column_stops, wire::proofs::Given::stopped), unfolding(message::specs::Layout::column_end, message::specs::Layout::column_value))]
+    fn read(r: &mut Reader) -> Result<Self, Refusal> {
+        let letter = fields::column_letter(r)?;
+        if fields::has_value(letter) {
+            let value = r.value()?;
+            return Ok(Column { letter, value });
+        }
+        Ok(Column {
             letter,
-            value,
-            next,
-        };
-    }
-    ColumnField {
-        letter,
-        value: Span {
-            start: 0,
-            length: 0,
-        },
-        next,
+            value: Span {
+                start: 0,
+                length: 0,
+            },
+        })
     }
 }
 
-// One step through a tuple from any position: the column that stands there, that the tuple is over, or reading's refusal.
-pub fn tuple_step(message: &[u8], position: Position) -> TupleStep
-    ensures { result ≡ tuple_step message.now position }
-{
-    let Position { offset, left } = position;
-    if left == 0 {
-        return TupleStep {
-            column: Column::Over,
-            next: position,
-        };
-    }
-    let ColumnField {
-        letter,
-        value,
-        next,
-    } = column_field(message, Cursor::At(offset));
-    match next {
-        Cursor::Refused { number, offset } => TupleStep {
-            column: Column::Refused { number, offset },
-            next: position,
-        },
-        Cursor::At(end) => {
-            let Span { start, length } = value;
-            let left = left - 1;
-            TupleStep {
-                column: Column::Value {
-                    letter,
-                    start,
-                    length,
-                },
-                next: Position { offset: end, left },
-            }
-        }
+impl Item for RelationColumn {
+    ghost fields = { column_fields };
+
+    ghost of = { relation_column_of };
+
+    #[tactic(auto, unfolding(wire::specs::Fields::number_field, wire::specs::Fields::text_field))]
+    fn read(r: &mut Reader) -> Result<Self, Refusal> {
+        let key = r.number::<u8>(0, 1, Refusal::FIELD)?;
+        let name = r.text()?;
+        let type_oid = r.number::<u32>(0, u32::MAX, Refusal::FIELD)?;
+        let modifier = r.number::<u32>(0, u32::MAX, Refusal::FIELD)?;
+        Ok(RelationColumn {
+            key,
+            name,
+            type_oid,
+            modifier: modifier.cast_signed(),
+        })
     }
 }
 
-// A column of a Relation.
-fn relation_field(s: &[u8], c: Cursor) -> RelationField
-    ensures { result ≡ relation_field s.now c }
-{
-    let Field8 { value: key, next } = wire::number8(s, c, 0, 1, Refusal::FIELD);
-    let FieldSpan { value: name, next } = wire::text(s, next);
-    let Field32 {
-        value: type_oid,
-        next,
-    } = wire::number32(s, next, 0, u32::MAX, Refusal::FIELD);
-    let Field32 { value: bits, next } = wire::number32(s, next, 0, u32::MAX, Refusal::FIELD);
-    RelationField {
-        key,
-        name,
-        type_oid,
-        bits,
-        next,
+impl Item for TruncatedRelation {
+    ghost fields = { id ∷ [] };
+
+    ghost of = { relation_of };
+
+    fn read(r: &mut Reader) -> Result<Self, Refusal> {
+        let oid = fields::id(r)?;
+        Ok(TruncatedRelation { oid })
     }
 }
 
-// One step through a Relation's columns.
-pub fn relation_step(message: &[u8], position: Position) -> RelationStep
-    ensures { result ≡ relation_step message.now position }
+// One step from any position: what stands there, that stepping is over, or reading's refusal.
+pub fn item_at<T: Item>(message: &[u8], position: Position) -> Step<T>
+    ensures { result ≡ item_step T.fields T.of message.now position }
 {
-    let Position { offset, left } = position;
-    if left == 0 {
-        return RelationStep {
-            column: RelationColumn::Over,
+    if position.left == 0 {
+        return Step {
+            item: Ok(None),
             next: position,
         };
     }
-    let RelationField {
-        key,
-        name,
-        type_oid,
-        bits,
-        next,
-    } = relation_field(message, Cursor::At(offset));
-    let modifier = wire::signed32(bits);
-    match next {
-        Cursor::Refused { number, offset } => RelationStep {
-            column: RelationColumn::Refused { number, offset },
+    let mut r = Reader {
+        bytes: message,
+        next: Ok(position.offset),
+    };
+    match T::read(&mut r) {
+        Err(refusal) => Step {
+            item: Err(refusal),
             next: position,
         },
-        Cursor::At(end) => {
-            let left = left - 1;
-            RelationStep {
-                column: RelationColumn::Column {
-                    key,
-                    name,
-                    type_oid,
-                    modifier,
-                },
-                next: Position { offset: end, left },
-            }
-        }
-    }
-}
-
-// One step through a Truncate's OIDs.
-pub fn oid_step(message: &[u8], position: Position) -> OidStep
-    ensures { result ≡ oid_step message.now position }
-{
-    let Position { offset, left } = position;
-    if left == 0 {
-        return OidStep {
-            relation: TruncatedRelation::Over,
-            next: position,
-        };
-    }
-    let Field32 { value: oid, next } = fields::id(message, Cursor::At(offset));
-    match next {
-        Cursor::Refused { number, offset } => OidStep {
-            relation: TruncatedRelation::Refused { number, offset },
-            next: position,
+        Ok(item) => Step {
+            item: Ok(Some(item)),
+            next: Position {
+                offset: r.offset(),
+                left: position.left - 1,
+            },
         },
-        Cursor::At(end) => {
-            let left = left - 1;
-            OidStep {
-                relation: TruncatedRelation::Oid(oid),
-                next: Position { offset: end, left },
-            }
-        }
     }
 }

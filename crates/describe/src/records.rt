@@ -1,245 +1,120 @@
-// Reads the records of a trace from standard input through one buffer. A record is the mark C3 4D, a length of 32 bits and a
-// message. One that is longer than the buffer is passed over.
-ghost use Rattle.std.specs.Prelude.{◌+◌, ◌<◌, ◌≤◌, length};
-ghost use Rattle.describe.specs.Windows.{Within};
+// Reads the records of a trace. A record is the mark C3 4D, a length of 32 bits and a message. One that is longer than the room is
+// passed over.
+ghost use Rattle.std.specs.Prelude.{◌≤◌, length};
 
-use std::io::Read;
-use wire::{Cursor, Field32, Refusal, Span};
+use std::alloc::Global;
+use std::io::{BufReader, Read};
+use std::{fmt, io};
 
 // The mark and the length before a message.
 pub const HEAD: usize = 6;
 
-// The unread bytes of the buffer.
-#[derive(Clone, Copy)]
-pub struct Window {
-    pub at: usize,
-    pub end: usize,
+// The room for a message.
+const ROOM: usize = 65_530;
+
+// How much is read from the input at once, and how much is passed over at once.
+const BUFFER: usize = 65_536;
+
+const CHUNK: usize = 4_096;
+
+#[derive(Drop)]
+pub struct Records<R> {
+    input: BufReader<R>,
+    room: Vec<u8>,
 }
 
-// What stands at the start of bytes: a record's message has so many bytes, or there is no record.
+// A record's message, or that it is too long for the room.
 #[derive(Clone, Copy)]
-enum Head {
-    Size(u32),
-    Over,
-    BadMark,
-    Cut,
-}
-
-// A record: where in the buffer its message lies, or that it is too long for the buffer.
-#[derive(Clone, Copy)]
-pub enum Record {
-    Message(Span),
+pub enum Record<'a> {
+    Message(&'a [u8]),
     Long { letter: u8, size: usize },
-    Over,
+}
+
+// Why there is no further record though the input goes on.
+#[derive(Clone, Copy)]
+pub enum Damage {
     BadMark,
     Cut,
 }
 
-// A record, and the unread bytes after it.
-#[derive(Clone, Copy)]
-pub struct Taken {
-    pub record: Record,
-    pub window: Window,
+impl fmt::Display for Damage {
+    fn fmt<W: fmt::Write>(&self, f: &mut fmt::Formatter<W>) -> fmt::Result {
+        f.write_str(match self {
+            Damage::BadMark => "bad mark",
+            Damage::Cut => "cut record",
+        })
+    }
 }
 
-// The unread bytes after so many were passed over, or that there were too few.
-#[derive(Clone, Copy)]
-struct Passed {
-    is_whole: bool,
-    window: Window,
-}
-
-fn read_some(input: &mut impl Read, room: &mut [u8]) -> usize
+// Reads until the room is full or the input ends, and gives how much was read. A failed read is taken for the end of the input.
+// A `while`, since std's `read_exact` doesn't say how much it read.
+fn read_full(input: &mut impl Read, room: &mut [u8]) -> usize
     ensures { result ≤ length room.old }
 {
-    // A failed read is taken for the end of the input.
-    input.read(room).unwrap_or(0)
-}
-
-// Reads until there are as many bytes as needed, or no more input or room.
-fn read_until(input: &mut impl Read, room: &mut [u8], from: usize, need: usize) -> usize
-    requires { from ≤ length room.old }
-    ensures { result ≤ length room.old }
-{
-    let mut n = from;
-    while n < need {
-        let got = read_some(input, &mut room[n..]);
-        if got == 0 {
-            return n;
+    let mut n = 0;
+    while n < room.len() {
+        match input.read(&mut room[n..]).unwrap_or(0) {
+            0 => return n,
+            got => n += got,
         }
-        n += got;
     }
     n
 }
 
-// Moves the unread bytes to the front, and gives how many there are.
-fn move_down(room: &mut [u8], window: Window) -> usize
-    requires { window.end ≤ length room.old }
-    ensures { result ≤ window.end }
-{
-    let mut from = window.at;
-    let mut n: usize = 0;
-    while from < window.end {
-        room[n] = room[from];
-        n += 1;
-        from += 1;
-    }
-    n
-}
-
-// Sees that as many bytes are unread as needed, unless the input ends before.
-fn fill(input: &mut impl Read, room: &mut [u8], window: Window, need: usize) -> Window
-    requires { Within window.at window.end (length room.old) }
-    ensures { Within result.at result.end (length room.old) }
-{
-    if need <= window.end - window.at {
-        return window;
-    }
-    let kept = move_down(room, window);
-    let end = read_until(input, room, kept, need);
-    Window { at: 0, end }
-}
-
-fn head_of(bytes: &[u8]) -> Head {
-    if bytes.len() == 0 {
-        return Head::Over;
-    }
-    if bytes[0] != 0xC3 {
-        return Head::BadMark;
-    }
-    if bytes.len() == 1 {
-        return Head::Cut;
-    }
-    if bytes[1] != 0x4D {
-        return Head::BadMark;
-    }
-    if bytes.len() < HEAD {
-        return Head::Cut;
-    }
-    let Field32 { value, next: _ } = wire::number32(
-        bytes,
-        Cursor::At(2),
-        0,
-        u32::MAX,
-        Refusal::FIELD,
-    );
-    Head::Size(value)
-}
-
-// Reads on past so many bytes.
-fn pass_over(input: &mut impl Read, room: &mut [u8], count: usize) -> Passed
-    ensures { Within result.window.at result.window.end (length room.old) }
-{
-    let mut left = count;
-    while 0 < left {
-        let got = read_some(input, room);
-        if got == 0 {
-            return Passed {
-                is_whole: false,
-                window: Window { at: 0, end: 0 },
-            };
-        }
-        if left < got {
-            return Passed {
-                is_whole: true,
-                window: Window { at: left, end: got },
-            };
-        }
-        left -= got;
-    }
-    Passed {
-        is_whole: true,
-        window: Window { at: 0, end: 0 },
-    }
-}
-
-// A record whose message is longer than the room.
-fn take_long(input: &mut impl Read, room: &mut [u8], window: Window, size: u32) -> Taken
-    requires { Within window.at window.end (length room.old) × (length room.old < size + 6) }
-    ensures { Within result.window.at result.window.end (length room.old) }
-{
-    let Window { at, end } = fill(input, room, window, HEAD + 1);
-    let count = end - at;
-    if count <= HEAD {
-        return Taken {
-            record: Record::Cut,
-            window: Window { at, end },
-        };
-    }
-    let letter = room[at + HEAD];
-    let size = size as usize;
-    let left = size + HEAD - count;
-    let Passed {
-        is_whole,
-        window: next,
-    } = pass_over(input, room, left);
-    if is_whole {
-        Taken {
-            record: Record::Long { letter, size },
-            window: next,
-        }
+// Fills the room.
+fn fill(input: &mut impl Read, room: &mut [u8]) -> Result<(), Damage> {
+    if read_full(input, room) < room.len() {
+        Err(Damage::Cut)
     } else {
-        Taken {
-            record: Record::Cut,
-            window: next,
-        }
+        Ok(())
     }
 }
 
-fn take_message(input: &mut impl Read, room: &mut [u8], window: Window, size: u32) -> Taken
-    requires { Within window.at window.end (length room.old) }
-    ensures { Within result.window.at result.window.end (length room.old) }
-{
-    let length = size as usize;
-    let whole = length + HEAD;
-    if room.len() < whole {
-        return take_long(input, room, window, size);
+impl<R: Read + Drop> Records<R> {
+    pub fn new(alloc: Global, input: R) -> io::Result<Records<R>> {
+        let input = BufReader::with_capacity(alloc, BUFFER, input)?;
+        let room = vec![in alloc; 0; ROOM]?;
+        Ok(Records { input, room })
     }
-    let Window { at, end } = fill(input, room, window, whole);
-    if end - at < whole {
-        return Taken {
-            record: Record::Cut,
-            window: Window { at, end },
+
+    // The length of the next record's message; none where the input ends.
+    fn next_size(&mut self) -> Result<Option<usize>, Damage> {
+        let mut head = [0u8; HEAD];
+        let n = read_full(&mut self.input, &mut head);
+        match &head[..n] {
+            [] => Ok(None),
+            [0xC3, 0x4D, a, b, c, d] => {
+                let size = u32::from_be_bytes([*a, *b, *c, *d]);
+                Ok(Some(size as usize))
+            }
+            [0xC3] | [0xC3, 0x4D, ..] => Err(Damage::Cut),
+            _ => Err(Damage::BadMark),
+        }
+    }
+
+    // Passes over a message that is longer than the room, and gives its letter.
+    fn pass_over(&mut self, size: usize) -> Result<u8, Damage> {
+        let mut letter = [0u8];
+        fill(&mut self.input, &mut letter)?;
+        let mut chunk = [0u8; CHUNK];
+        for start in (1..size).step_by(CHUNK) {
+            let count = size.saturating_sub(start).min(CHUNK);
+            fill(&mut self.input, &mut chunk[..count])?;
+        }
+        Ok(letter[0])
+    }
+
+    // The next record; none where the input ends.
+    pub fn next_record(&mut self) -> Result<Option<Record<'_>>, Damage> {
+        let Some(size) = self.next_size()? else {
+            return Ok(None);
         };
-    }
-    let start = at + HEAD;
-    let next = at + whole;
-    Taken {
-        record: Record::Message(Span { start, length }),
-        window: Window { at: next, end },
-    }
-}
-
-// The window, or an empty one where it does not lie in the buffer.
-fn within(room: &[u8], window: Window) -> Window
-    ensures { Within result.at result.end (length room.now) }
-{
-    if window.at <= window.end {
-        if window.end <= room.len() {
-            return window;
+        if self.room.len() < size {
+            let letter = self.pass_over(size)?;
+            return Ok(Some(Record::Long { letter, size }));
         }
-    }
-    Window { at: 0, end: 0 }
-}
-
-// The next record of standard input.
-pub fn next_record(input: &mut impl Read, room: &mut [u8], window: Window) -> Taken {
-    let window = within(room, window);
-    let Window { at, end } = fill(input, room, window, HEAD);
-    let filled = Window { at, end };
-    match head_of(&room[at..end]) {
-        Head::Size(size) => take_message(input, room, filled, size),
-        Head::Over => Taken {
-            record: Record::Over,
-            window: filled,
-        },
-        Head::BadMark => Taken {
-            record: Record::BadMark,
-            window: filled,
-        },
-        Head::Cut => Taken {
-            record: Record::Cut,
-            window: filled,
-        },
+        let message = &mut self.room[..size];
+        fill(&mut self.input, message)?;
+        Ok(Some(Record::Message(message)))
     }
 }

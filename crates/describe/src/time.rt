@@ -1,7 +1,8 @@
 // Times as dates. A time counts microseconds from the start of the year 2000.
+// The calendar stands here, since a `Timestamp` of the kit's `jiff` ends before the last day of the year 9999, which is told as a date.
 ghost use Rattle.std.specs.Prelude.{◌<◌, ◌≤◌};
 
-use crate::text;
+use std::fmt;
 
 const DAY: u64 = 86_400_000_000;
 
@@ -15,6 +16,10 @@ const SECOND: u64 = 1_000_000;
 const YEAR_2000: u64 = 730_425 * 86_400_000_000;
 
 const YEAR_10000: u64 = 3_652_365 * 86_400_000_000;
+
+// A time in UTC; as it is before March of the year 0 and after the year 9999.
+#[derive(Clone, Copy)]
+pub struct Time(pub i64);
 
 #[derive(Clone, Copy)]
 struct Date {
@@ -47,39 +52,25 @@ fn date_of(days: u64) -> Date
     }
 }
 
-// A number's digits but its first, after words: 107 stands for 07.
-fn put_padded(line: &mut [u8], at: usize, words: &[u8], n: u64) -> usize {
-    let at = text::put(line, at, words);
-    let mut digits = [0u8; 20];
-    let count = io::decimal(n, &mut digits);
-    text::put(line, at, &digits[1..count])
-}
-
-fn put_date(line: &mut [u8], at: usize, days: u64) -> usize
-    requires { days < 3652365 }
-{
-    let Date { year, month, day } = date_of(days);
-    let at = put_padded(line, at, b"", year + 10_000);
-    let at = put_padded(line, at, b"-", month + 100);
-    put_padded(line, at, b"-", day + 100)
-}
-
-fn put_clock(line: &mut [u8], at: usize, rest: u64) -> usize {
-    let at = put_padded(line, at, b"T", rest / HOUR % 24 + 100);
-    let at = put_padded(line, at, b":", rest / MINUTE % 60 + 100);
-    let at = put_padded(line, at, b":", rest / SECOND % 60 + 100);
-    let at = put_padded(line, at, b".", rest % SECOND + 1_000_000);
-    text::put(line, at, b"Z")
-}
-
-// A time in UTC, after words; as it is before March of the year 0 and after the year 9999.
-pub fn put_time(line: &mut [u8], at: usize, words: &[u8], time: i64) -> usize {
-    let since = std::num::wrapping_add_u64(wire::bits64(time), YEAR_2000);
-    if YEAR_10000 <= since {
-        let at = text::put_signed(line, at, words, time);
-        return text::put(line, at, b" microseconds from 2000");
+impl fmt::Display for Date {
+    fn fmt<W: fmt::Write>(&self, f: &mut fmt::Formatter<W>) -> fmt::Result {
+        let Date { year, month, day } = *self;
+        write!(f, "{year:04}-{month:02}-{day:02}")
     }
-    let at = text::put(line, at, words);
-    let at = put_date(line, at, since / DAY);
-    put_clock(line, at, since % DAY)
+}
+
+impl fmt::Display for Time {
+    fn fmt<W: fmt::Write>(&self, f: &mut fmt::Formatter<W>) -> fmt::Result {
+        let time = self.0;
+        let since = time.cast_unsigned().wrapping_add(YEAR_2000);
+        if YEAR_10000 <= since {
+            return write!(f, "{time} microseconds from 2000");
+        }
+        let date = date_of(since / DAY);
+        let hour = since / HOUR % 24;
+        let minute = since / MINUTE % 60;
+        let second = since / SECOND % 60;
+        let micros = since % SECOND;
+        write!(f, "{date}T{hour:02}:{minute:02}:{second:02}.{micros:06}Z")
+    }
 }

@@ -1,407 +1,254 @@
 // A message in words: its kind, its numbers, its names and its columns.
-ghost use Rattle.std.specs.Prelude.{◌≤◌};
+use crate::lists::{RelationColumns, Relations, Tuple};
+use crate::text::{Count, Lsn, Shape, Text};
+use crate::time::Time;
+use message::{Delete, Kind, LogicalMessage, Message, OldTuple, Relation, Truncate, Type, Update};
+use std::fmt;
+use wire::{Refusal, Span};
 
-use crate::types::WIDTH;
-use crate::{text, time, typed, types};
-use columns::{
-    Column, OidStep, Position, RelationColumn, RelationStep, TruncatedRelation, TupleStep,
-};
-use message::{
-    Begin, Commit, Delete, Insert, LogicalMessage, Message, OldTuple, Origin, Read, Relation,
-    StreamCommit, Truncate, Type, Update, fields,
-};
-use wire::{Cursor, Field16, Span};
-
-// The kinds, by their numbers.
-const KINDS: [u8; 132] = *b"\
-    Unknown\n\
-    Begin\n\
-    Commit\n\
-    Origin\n\
-    Relation\n\
-    Type\n\
-    Insert\n\
-    Update\n\
-    Delete\n\
-    Truncate\n\
-    Message\n\
-    Stream Start\n\
-    Stream Stop\n\
-    Stream Commit\n\
-    Stream Abort\n\
-    ";
-
-// What a list has.
-const VALUES: u8 = 0;
-
-const COLUMNS: u8 = 1;
-
-const OIDS: u8 = 2;
-
-// How many of a list are shown.
-const SHOWN: usize = 32;
-
-// Where the line goes on, and the list.
+// The kind that the first byte of a message names, and the byte itself where it names none.
 #[derive(Clone, Copy)]
-struct Item {
-    at: usize,
-    next: Position,
-}
+pub struct First(pub Option<u8>);
 
-// The kind that the first byte names, and the byte itself where it names none.
-pub fn put_first(line: &mut [u8], at: usize, bytes: &[u8]) -> usize {
-    if bytes.len() == 0 {
-        return text::put(line, at, b"Empty");
-    }
-    let number = message::kind_of(bytes[0]);
-    let at = text::put_entry(line, at, &KINDS, number);
-    if number == 0 {
-        text::put_text(line, at, b" ", text::front(bytes, 1))
-    } else {
-        at
-    }
-}
-
-fn put_part(line: &mut [u8], at: usize, words: &[u8], bytes: &[u8], span: Span) -> usize {
-    text::put_text(line, at, words, columns::part(bytes, span))
+// What reading bytes gave: the message, with the types of its columns where they are known, or that the bytes are none.
+#[derive(Clone, Copy)]
+pub struct Told<'a> {
+    pub read: Result<Message, Refusal>,
+    pub bytes: &'a [u8],
+    pub types: &'a [u32],
 }
 
 // The xid that stands only inside a stream block.
-fn put_xid(line: &mut [u8], at: usize, xid: u32) -> usize {
-    if xid == 0 {
-        at
-    } else {
-        text::put_number(line, at, b" xid ", xid as u64)
+#[derive(Clone, Copy)]
+struct BlockXid(u32);
+
+#[derive(Clone, Copy)]
+struct Options(u8);
+
+// A namespace and a name in it.
+#[derive(Clone, Copy)]
+struct Name<'a> {
+    namespace: Text<'a>,
+    name: Text<'a>,
+}
+
+// Where and when a transaction committed.
+#[derive(Clone, Copy)]
+struct Committed {
+    lsn: Lsn,
+    end_lsn: Lsn,
+    time: Time,
+}
+
+fn name_of(kind: Kind) -> &'static str {
+    match kind {
+        Kind::Begin => "Begin",
+        Kind::Commit => "Commit",
+        Kind::Origin => "Origin",
+        Kind::Relation => "Relation",
+        Kind::Type => "Type",
+        Kind::Insert => "Insert",
+        Kind::Update => "Update",
+        Kind::Delete => "Delete",
+        Kind::Truncate => "Truncate",
+        Kind::Message => "Message",
+        Kind::StreamStart => "Stream Start",
+        Kind::StreamStop => "Stream Stop",
+        Kind::StreamCommit => "Stream Commit",
+        Kind::StreamAbort => "Stream Abort",
     }
 }
 
-// The value of the column at a position.
-fn put_value(
-    line: &mut [u8],
-    at: usize,
-    bytes: &[u8],
-    from: Position,
-    letter: u8,
-    span: Span,
-    type_oid: u32,
-) -> usize {
-    match letter {
-        Column::NULL => text::put(line, at, b"null"),
-        Column::UNCHANGED => text::put(line, at, b"unchanged"),
-        Column::BINARY => typed::put_binary(line, at, bytes, from, type_oid, span),
-        _ => put_part(line, at, b"", bytes, span),
+impl fmt::Display for First {
+    fn fmt<W: fmt::Write>(&self, f: &mut fmt::Formatter<W>) -> fmt::Result {
+        let Some(letter) = self.0 else {
+            return write!(f, "Empty");
+        };
+        match message::kind_of(letter) {
+            Some(kind) => f.write_str(name_of(kind)),
+            None => write!(f, "Unknown {}", Text(&[letter])),
+        }
     }
 }
 
-fn put_column(line: &mut [u8], at: usize, bytes: &[u8], from: Position, type_oid: u32) -> Item {
-    let TupleStep { column, next } = columns::tuple_step(bytes, from);
-    match column {
-        Column::Value {
-            letter,
+impl fmt::Display for BlockXid {
+    fn fmt<W: fmt::Write>(&self, f: &mut fmt::Formatter<W>) -> fmt::Result {
+        match self.0 {
+            0 => Ok(()),
+            xid => write!(f, " xid {xid}"),
+        }
+    }
+}
+
+impl fmt::Display for Options {
+    fn fmt<W: fmt::Write>(&self, f: &mut fmt::Formatter<W>) -> fmt::Result {
+        f.write_str(match self.0 {
+            0 => "",
+            Truncate::CASCADE => ", cascade",
+            Truncate::RESTART_IDENTITY => ", restart identity",
+            _ => ", cascade, restart identity",
+        })
+    }
+}
+
+impl fmt::Display for Name<'_> {
+    fn fmt<W: fmt::Write>(&self, f: &mut fmt::Formatter<W>) -> fmt::Result {
+        let Name { namespace, name } = *self;
+        write!(f, "{namespace}.{name}")
+    }
+}
+
+impl Committed {
+    fn new(lsn: u64, end_lsn: u64, time: i64) -> Committed {
+        Committed {
+            lsn: Lsn(lsn),
+            end_lsn: Lsn(end_lsn),
+            time: Time(time),
+        }
+    }
+}
+
+impl fmt::Display for Committed {
+    fn fmt<W: fmt::Write>(&self, f: &mut fmt::Formatter<W>) -> fmt::Result {
+        let Committed { lsn, end_lsn, time } = *self;
+        write!(f, "LSN {lsn}, end LSN {end_lsn}, time {time}")
+    }
+}
+
+impl<'a> Told<'a> {
+    fn text(self, span: Span) -> Text<'a> {
+        Text(columns::part(self.bytes, span))
+    }
+
+    fn name(self, namespace: Span, name: Span) -> Name<'a> {
+        Name {
+            namespace: self.text(namespace),
+            name: self.text(name),
+        }
+    }
+
+    // The tuple whose count stands at an offset.
+    fn tuple(self, start: usize) -> Tuple<'a> {
+        Tuple {
+            bytes: self.bytes,
             start,
-            length,
-        } => {
-            let span = Span { start, length };
-            let at = put_value(line, at, bytes, from, letter, span, type_oid);
-            Item { at, next }
+            types: self.types,
         }
-        Column::Over => Item { at, next },
-        Column::Refused {
-            number: _,
-            offset: _,
-        } => Item { at, next },
     }
-}
 
-fn put_relation_column(line: &mut [u8], at: usize, bytes: &[u8], from: Position) -> Item {
-    let RelationStep { column, next } = columns::relation_step(bytes, from);
-    match column {
-        RelationColumn::Column {
-            key,
-            name,
-            type_oid,
-            modifier,
-        } => {
-            let at = text::put_if(line, at, key == 1, b"key ");
-            let at = put_part(line, at, b"", bytes, name);
-            let at = text::put_number(line, at, b" type ", type_oid as u64);
-            let at = text::put_signed(line, at, b" modifier ", wire::wide32(modifier));
-            Item { at, next }
+    fn write_relation<W: fmt::Write>(self, f: &mut fmt::Formatter<W>, x: Relation) -> fmt::Result {
+        let name = self.name(x.namespace, x.name);
+        let xid = BlockXid(x.xid);
+        let shape = Shape {
+            identity: x.identity,
+            columns: x.count,
+        };
+        let columns = RelationColumns {
+            bytes: self.bytes,
+            start: x.columns,
+            count: x.count,
+        };
+        write!(f, " {} {name}{xid}, {shape}{columns}", x.relation)
+    }
+
+    fn write_type<W: fmt::Write>(self, f: &mut fmt::Formatter<W>, x: Type) -> fmt::Result {
+        let name = self.name(x.namespace, x.name);
+        write!(f, " {} {name}{}", x.oid, BlockXid(x.xid))
+    }
+
+    fn write_old<W: fmt::Write>(self, f: &mut fmt::Formatter<W>, old: OldTuple) -> fmt::Result {
+        match old {
+            OldTuple::Nothing => Ok(()),
+            OldTuple::Key(start) => write!(f, ", key{}", self.tuple(start)),
+            OldTuple::Full(start) => write!(f, ", old{}", self.tuple(start)),
         }
-        RelationColumn::Over => Item { at, next },
-        RelationColumn::Refused {
-            number: _,
-            offset: _,
-        } => Item { at, next },
     }
-}
 
-fn put_oid(line: &mut [u8], at: usize, bytes: &[u8], from: Position) -> Item {
-    let OidStep { relation, next } = columns::oid_step(bytes, from);
-    match relation {
-        TruncatedRelation::Oid(oid) => {
-            let at = text::put_number(line, at, b"", oid as u64);
-            Item { at, next }
+    fn write_update<W: fmt::Write>(self, f: &mut fmt::Formatter<W>, x: Update) -> fmt::Result {
+        write!(f, "{} of {}", BlockXid(x.xid), x.relation)?;
+        self.write_old(f, x.old)?;
+        write!(f, ", new{}", self.tuple(x.tuple))
+    }
+
+    fn write_delete<W: fmt::Write>(self, f: &mut fmt::Formatter<W>, x: Delete) -> fmt::Result {
+        let old = if x.image == b'K' {
+            OldTuple::Key(x.tuple)
+        } else {
+            OldTuple::Full(x.tuple)
+        };
+        write!(f, "{} from {}", BlockXid(x.xid), x.relation)?;
+        self.write_old(f, old)
+    }
+
+    fn write_truncate<W: fmt::Write>(self, f: &mut fmt::Formatter<W>, x: Truncate) -> fmt::Result {
+        let xid = BlockXid(x.xid);
+        let options = Options(x.options);
+        let count = Count(u64::from(x.count), "relation");
+        let relations = Relations {
+            bytes: self.bytes,
+            start: x.relations,
+            count: x.count,
+        };
+        write!(f, "{xid}{options}, {count}{relations}")
+    }
+
+    fn write_logical_message<W: fmt::Write>(
+        self,
+        f: &mut fmt::Formatter<W>,
+        x: LogicalMessage,
+    ) -> fmt::Result {
+        let xid = BlockXid(x.xid);
+        let transactional = if x.flags == 1 { " transactional" } else { "" };
+        let lsn = Lsn(x.lsn);
+        let prefix = self.text(x.prefix);
+        let content = self.text(x.content);
+        write!(
+            f,
+            "{xid}{transactional}, LSN {lsn}, prefix {prefix}, content {content}"
+        )
+    }
+
+    fn write_fields<W: fmt::Write>(self, f: &mut fmt::Formatter<W>, m: Message) -> fmt::Result {
+        match m {
+            Message::Begin(x) => {
+                let lsn = Lsn(x.final_lsn);
+                write!(f, " xid {}, final LSN {lsn}, time {}", x.xid, Time(x.time))
+            }
+            Message::Commit(x) => write!(f, " {}", Committed::new(x.commit_lsn, x.end_lsn, x.time)),
+            Message::Origin(x) => write!(f, " {}, LSN {}", self.text(x.name), Lsn(x.lsn)),
+            Message::Relation(x) => self.write_relation(f, x),
+            Message::Type(x) => self.write_type(f, x),
+            Message::Insert(x) => {
+                let tuple = self.tuple(x.tuple);
+                write!(f, "{} into {}, new{tuple}", BlockXid(x.xid), x.relation)
+            }
+            Message::Update(x) => self.write_update(f, x),
+            Message::Delete(x) => self.write_delete(f, x),
+            Message::Truncate(x) => self.write_truncate(f, x),
+            Message::Message(x) => self.write_logical_message(f, x),
+            Message::StreamStart { xid, first } => {
+                write!(f, " xid {xid}{}", if first == 1 { " first" } else { "" })
+            }
+            Message::StreamStop => Ok(()),
+            Message::StreamCommit(x) => {
+                let committed = Committed::new(x.commit_lsn, x.end_lsn, x.time);
+                write!(f, " xid {}, {committed}", x.xid)
+            }
+            Message::StreamAbort { xid, sub_xid } => write!(f, " xid {xid}, sub-xid {sub_xid}"),
         }
-        TruncatedRelation::Over => Item { at, next },
-        TruncatedRelation::Refused {
-            number: _,
-            offset: _,
-        } => Item { at, next },
     }
 }
 
-// What stands before the k-th of a list.
-fn put_separator(line: &mut [u8], at: usize, k: usize) -> usize {
-    if k == 1 {
-        text::put(line, at, b": ")
-    } else {
-        text::put(line, at, b", ")
-    }
-}
-
-// One of a list, with its number.
-fn put_item(
-    line: &mut [u8],
-    at: usize,
-    what: u8,
-    bytes: &[u8],
-    from: Position,
-    k: usize,
-    types: &[u32; WIDTH],
-) -> Item {
-    let at = put_separator(line, at, k);
-    let at = text::put_number(line, at, b"[", k as u64);
-    let at = text::put(line, at, b"] ");
-    match what {
-        COLUMNS => put_relation_column(line, at, bytes, from),
-        OIDS => put_oid(line, at, bytes, from),
-        _ => put_column(line, at, bytes, from, types::type_at(types, k)),
-    }
-}
-
-fn shown(count: usize) -> usize
-    ensures { (result ≤ count) × (result ≤ 32) }
-{
-    if count < SHOWN { count } else { SHOWN }
-}
-
-// How many are not shown.
-fn put_more(line: &mut [u8], at: usize, count: usize) -> usize {
-    if count == 0 {
-        return at;
-    }
-    let at = text::put_number(line, at, b" and ", count as u64);
-    text::put(line, at, b" more")
-}
-
-// The first of a list, and how many more there are.
-fn put_list(
-    line: &mut [u8],
-    at: usize,
-    what: u8,
-    bytes: &[u8],
-    from: Position,
-    types: &[u32; WIDTH],
-) -> usize {
-    let most = shown(from.left);
-    let mut end = at;
-    let mut next = from;
-    let mut k: usize = 1;
-    while k <= most {
-        let Item {
-            at: item_end,
-            next: item_next,
-        } = put_item(line, end, what, bytes, next, k, types);
-        end = item_end;
-        next = item_next;
-        k += 1;
-    }
-    put_more(line, end, from.left - most)
-}
-
-// A tuple, from where its count stands.
-fn put_tuple(
-    line: &mut [u8],
-    at: usize,
-    words: &[u8],
-    bytes: &[u8],
-    start: usize,
-    types: &[u32; WIDTH],
-) -> usize {
-    let Field16 { value, next } = fields::column_count(bytes, Cursor::At(start));
-    let offset = wire::position(next);
-    let left = value as usize;
-    let at = text::put(line, at, words);
-    let at = text::put_count(line, at, b" ", left as u64, b" column");
-    put_list(line, at, VALUES, bytes, Position { offset, left }, types)
-}
-
-fn put_begin(line: &mut [u8], at: usize, x: Begin) -> usize {
-    let at = text::put_number(line, at, b" xid ", x.xid as u64);
-    let at = text::put_lsn(line, at, b", final LSN ", x.final_lsn);
-    time::put_time(line, at, b", time ", x.time)
-}
-
-fn put_commit(line: &mut [u8], at: usize, x: Commit) -> usize {
-    let at = text::put_lsn(line, at, b" LSN ", x.commit_lsn);
-    let at = text::put_lsn(line, at, b", end LSN ", x.end_lsn);
-    time::put_time(line, at, b", time ", x.time)
-}
-
-fn put_origin(line: &mut [u8], at: usize, x: Origin, bytes: &[u8]) -> usize {
-    let at = put_part(line, at, b" ", bytes, x.name);
-    text::put_lsn(line, at, b", LSN ", x.lsn)
-}
-
-fn put_name(line: &mut [u8], at: usize, bytes: &[u8], namespace: Span, name: Span) -> usize {
-    let at = put_part(line, at, b" ", bytes, namespace);
-    put_part(line, at, b".", bytes, name)
-}
-
-fn put_relation(line: &mut [u8], at: usize, x: Relation, bytes: &[u8]) -> usize {
-    let offset = x.columns;
-    let left = x.count as usize;
-    let at = text::put_number(line, at, b" ", x.relation as u64);
-    let at = put_name(line, at, bytes, x.namespace, x.name);
-    let at = put_xid(line, at, x.xid);
-    let at = text::put_shape(line, at, b", ", x.identity, x.count);
-    put_list(
-        line,
-        at,
-        COLUMNS,
-        bytes,
-        Position { offset, left },
-        &types::UNKNOWN,
-    )
-}
-
-fn put_type(line: &mut [u8], at: usize, x: Type, bytes: &[u8]) -> usize {
-    let at = text::put_number(line, at, b" ", x.oid as u64);
-    let at = put_name(line, at, bytes, x.namespace, x.name);
-    put_xid(line, at, x.xid)
-}
-
-fn put_insert(line: &mut [u8], at: usize, x: Insert, bytes: &[u8], types: &[u32; WIDTH]) -> usize {
-    let at = put_xid(line, at, x.xid);
-    let at = text::put_number(line, at, b" into ", x.relation as u64);
-    put_tuple(line, at, b", new", bytes, x.tuple, types)
-}
-
-fn put_old(line: &mut [u8], at: usize, old: OldTuple, bytes: &[u8], types: &[u32; WIDTH]) -> usize {
-    match old {
-        OldTuple::Nothing => at,
-        OldTuple::Key(start) => put_tuple(line, at, b", key", bytes, start, types),
-        OldTuple::Full(start) => put_tuple(line, at, b", old", bytes, start, types),
-    }
-}
-
-fn put_update(line: &mut [u8], at: usize, x: Update, bytes: &[u8], types: &[u32; WIDTH]) -> usize {
-    let Update {
-        xid,
-        relation,
-        old,
-        tuple,
-    } = x;
-    let at = put_xid(line, at, xid);
-    let at = text::put_number(line, at, b" of ", relation as u64);
-    let at = put_old(line, at, old, bytes, types);
-    put_tuple(line, at, b", new", bytes, tuple, types)
-}
-
-fn put_delete(line: &mut [u8], at: usize, x: Delete, bytes: &[u8], types: &[u32; WIDTH]) -> usize {
-    let at = put_xid(line, at, x.xid);
-    let at = text::put_number(line, at, b" from ", x.relation as u64);
-    if x.image == b'K' {
-        put_tuple(line, at, b", key", bytes, x.tuple, types)
-    } else {
-        put_tuple(line, at, b", old", bytes, x.tuple, types)
-    }
-}
-
-fn put_options(line: &mut [u8], at: usize, options: u8) -> usize {
-    match options {
-        0 => at,
-        Truncate::CASCADE => text::put(line, at, b", cascade"),
-        Truncate::RESTART_IDENTITY => text::put(line, at, b", restart identity"),
-        _ => text::put(line, at, b", cascade, restart identity"),
-    }
-}
-
-fn put_truncate(line: &mut [u8], at: usize, x: Truncate, bytes: &[u8]) -> usize {
-    let offset = x.relations;
-    let left = x.count as usize;
-    let at = put_xid(line, at, x.xid);
-    let at = put_options(line, at, x.options);
-    let at = text::put_count(line, at, b", ", left as u64, b" relation");
-    put_list(
-        line,
-        at,
-        OIDS,
-        bytes,
-        Position { offset, left },
-        &types::UNKNOWN,
-    )
-}
-
-fn put_logical_message(line: &mut [u8], at: usize, x: LogicalMessage, bytes: &[u8]) -> usize {
-    let at = put_xid(line, at, x.xid);
-    let at = text::put_if(line, at, x.flags == 1, b" transactional");
-    let at = text::put_lsn(line, at, b", LSN ", x.lsn);
-    let at = put_part(line, at, b", prefix ", bytes, x.prefix);
-    put_part(line, at, b", content ", bytes, x.content)
-}
-
-fn put_stream_start(line: &mut [u8], at: usize, xid: u32, first: u8) -> usize {
-    let at = text::put_number(line, at, b" xid ", xid as u64);
-    text::put_if(line, at, first == 1, b" first")
-}
-
-fn put_stream_commit(line: &mut [u8], at: usize, x: StreamCommit) -> usize {
-    let at = text::put_number(line, at, b" xid ", x.xid as u64);
-    let at = text::put_lsn(line, at, b", LSN ", x.commit_lsn);
-    let at = text::put_lsn(line, at, b", end LSN ", x.end_lsn);
-    time::put_time(line, at, b", time ", x.time)
-}
-
-fn put_stream_abort(line: &mut [u8], at: usize, xid: u32, sub_xid: u32) -> usize {
-    let at = text::put_number(line, at, b" xid ", xid as u64);
-    text::put_number(line, at, b", sub-xid ", sub_xid as u64)
-}
-
-fn put_fields(line: &mut [u8], at: usize, m: Message, bytes: &[u8], types: &[u32; WIDTH]) -> usize {
-    match m {
-        Message::Begin(x) => put_begin(line, at, x),
-        Message::Commit(x) => put_commit(line, at, x),
-        Message::Origin(x) => put_origin(line, at, x, bytes),
-        Message::Relation(x) => put_relation(line, at, x, bytes),
-        Message::Type(x) => put_type(line, at, x, bytes),
-        Message::Insert(x) => put_insert(line, at, x, bytes, types),
-        Message::Update(x) => put_update(line, at, x, bytes, types),
-        Message::Delete(x) => put_delete(line, at, x, bytes, types),
-        Message::Truncate(x) => put_truncate(line, at, x, bytes),
-        Message::Message(x) => put_logical_message(line, at, x, bytes),
-        Message::StreamStart { xid, first } => put_stream_start(line, at, xid, first),
-        Message::StreamStop => at,
-        Message::StreamCommit(x) => put_stream_commit(line, at, x),
-        Message::StreamAbort { xid, sub_xid } => put_stream_abort(line, at, xid, sub_xid),
-    }
-}
-
-// What reading gave: the message, with the types of its columns where they are known, or that the bytes are none.
-pub fn put_read(
-    line: &mut [u8],
-    at: usize,
-    read: Read,
-    bytes: &[u8],
-    types: &[u32; WIDTH],
-) -> usize {
-    let at = put_first(line, at, bytes);
-    match read {
-        Read::Message(m) => put_fields(line, at, m, bytes, types),
-        Read::Refused(_) => {
-            let at = text::put_count(line, at, b", ", bytes.len() as u64, b" byte");
-            text::put(line, at, b", not readable")
+impl fmt::Display for Told<'_> {
+    fn fmt<W: fmt::Write>(&self, f: &mut fmt::Formatter<W>) -> fmt::Result {
+        let bytes = self.bytes;
+        write!(f, "{}", First(bytes.first().copied()))?;
+        match self.read {
+            Ok(m) => self.write_fields(f, m),
+            Err(_) => {
+                let count = Count(bytes.len() as u64, "byte");
+                write!(f, ", {count}, not readable")
+            }
         }
     }
 }

@@ -1,128 +1,111 @@
 // A binary value in words: its type and its number where its type is listed, else its bytes.
-use crate::{floats, text, time};
+use crate::floats::{Float4, Float8};
+use crate::text::Hex;
+use crate::time::Time;
 use columns::Position;
-use values::{Bits, TypedColumn, TypedStep, Value, ValueKind};
-use wire::Span;
+use std::fmt;
+use values::{Value, ValueKind};
+use wire::Refusal;
 
 // The patterns of the usual NaNs.
 const NAN4: u32 = 0x7FC0_0000;
 
 const NAN8: u64 = 0x7FF8_0000_0000_0000;
 
-fn put_bool(line: &mut [u8], at: usize, b: bool) -> usize {
-    if b {
-        text::put(line, at, b"bool true")
-    } else {
-        text::put(line, at, b"bool false")
-    }
+// A binary column of a message: its bytes, and what reading them by their type gives.
+#[derive(Clone, Copy)]
+pub struct Binary<'a> {
+    part: &'a [u8],
+    type_oid: u32,
+    value: Result<Option<Value>, Refusal>,
 }
 
-fn put_float4(line: &mut [u8], at: usize, bits: u64) -> usize {
-    let at = text::put(line, at, b"float4 ");
-    floats::put_float4(line, at, bits)
-}
-
-fn put_float8(line: &mut [u8], at: usize, bits: u64) -> usize {
-    let at = text::put(line, at, b"float8 ");
-    floats::put_float8(line, at, bits)
-}
-
-// A NaN, after words, with its bytes where they are not the usual ones.
-fn put_nan(line: &mut [u8], at: usize, words: &[u8], is_usual: bool, part: &[u8]) -> usize {
-    let at = text::put(line, at, words);
-    if is_usual {
-        text::put(line, at, b"NaN")
-    } else {
-        text::put_binary(line, at, b"NaN ", part)
-    }
-}
+// A NaN, with its bytes where they are not the usual ones.
+#[derive(Clone, Copy)]
+struct Nan<'a>(Option<&'a [u8]>);
 
 // The last and the first time stand for infinite ones.
-fn put_timestamp(line: &mut [u8], at: usize, time: i64) -> usize {
-    if time == i64::MAX {
-        text::put(line, at, b"timestamptz infinity")
-    } else if time == i64::MIN {
-        text::put(line, at, b"timestamptz -infinity")
-    } else {
-        time::put_time(line, at, b"timestamptz ", time)
-    }
-}
-
-fn bits_of(value: Value) -> u64 {
-    match values::bits_of(value) {
-        Bits::Number { width: _, number } => number,
-        Bits::Part {
-            start: _,
-            length: _,
-        } => 0,
-    }
-}
-
-fn put_value(line: &mut [u8], at: usize, value: Value, part: &[u8]) -> usize {
-    match value {
-        Value::Bool(b) => put_bool(line, at, b),
-        Value::Int2(n) => text::put_signed(line, at, b"int2 ", wire::wide16(n)),
-        Value::Int4(n) => text::put_signed(line, at, b"int4 ", wire::wide32(n)),
-        Value::Int8(n) => text::put_signed(line, at, b"int8 ", n),
-        Value::Float4(_) => put_float4(line, at, bits_of(value)),
-        Value::Float4Nan(n) => put_nan(line, at, b"float4 ", n == NAN4, part),
-        Value::Float8(_) => put_float8(line, at, bits_of(value)),
-        Value::Float8Nan(n) => put_nan(line, at, b"float8 ", n == NAN8, part),
-        Value::TimestampTz(n) => put_timestamp(line, at, n),
-        Value::Raw {
-            start: _,
-            length: _,
-        } => text::put_binary(line, at, b"binary ", part),
-    }
-}
+#[derive(Clone, Copy)]
+struct Timestamp(i64);
 
 // What the bytes of a type's values are.
-fn put_kind(line: &mut [u8], at: usize, kind: ValueKind) -> usize {
-    match kind {
-        ValueKind::Bool => text::put(line, at, b"a bool is 0x00 or 0x01"),
-        ValueKind::Int2 => text::put(line, at, b"an int2 has 2 bytes"),
-        ValueKind::Int4 => text::put(line, at, b"an int4 has 4 bytes"),
-        ValueKind::Int8 => text::put(line, at, b"an int8 has 8 bytes"),
-        ValueKind::Float4 => text::put(line, at, b"a float4 has 4 bytes"),
-        ValueKind::Float8 => text::put(line, at, b"a float8 has 8 bytes"),
-        ValueKind::TimestampTz => text::put(line, at, b"a timestamptz has 8 bytes"),
-        ValueKind::Raw => at,
+#[derive(Clone, Copy)]
+struct Form(ValueKind);
+
+impl fmt::Display for Nan<'_> {
+    fn fmt<W: fmt::Write>(&self, f: &mut fmt::Formatter<W>) -> fmt::Result {
+        match self.0 {
+            None => write!(f, "NaN"),
+            Some(part) => write!(f, "NaN {}", Hex(part)),
+        }
     }
 }
 
-// The bytes that are no value of their type, and why.
-fn put_refused(
-    line: &mut [u8],
-    at: usize,
-    number: u8,
-    offset: usize,
-    type_oid: u32,
-    part: &[u8],
-) -> usize {
-    let at = text::put_binary(line, at, b"binary ", part);
-    let at = text::put_number(line, at, b" (refused ", number as u64);
-    let at = text::put_number(line, at, b" at ", offset as u64);
-    let at = text::put(line, at, b": ");
-    let at = put_kind(line, at, values::kind_of_type(type_oid));
-    text::put(line, at, b")")
+impl fmt::Display for Timestamp {
+    fn fmt<W: fmt::Write>(&self, f: &mut fmt::Formatter<W>) -> fmt::Result {
+        match self.0 {
+            i64::MAX => write!(f, "infinity"),
+            i64::MIN => write!(f, "-infinity"),
+            time => write!(f, "{}", Time(time)),
+        }
+    }
 }
 
-// The binary column at a position, whose value has the span.
-pub fn put_binary(
-    line: &mut [u8],
-    at: usize,
-    bytes: &[u8],
-    from: Position,
-    type_oid: u32,
-    span: Span,
-) -> usize {
-    let part = columns::part(bytes, span);
-    let TypedStep { column, next: _ } = values::typed_step(bytes, from, type_oid);
-    match column {
-        TypedColumn::Value(value) => put_value(line, at, value, part),
-        TypedColumn::Over => at,
-        TypedColumn::Refused { number, offset } => {
-            put_refused(line, at, number, offset, type_oid, part)
+impl fmt::Display for Form {
+    fn fmt<W: fmt::Write>(&self, f: &mut fmt::Formatter<W>) -> fmt::Result {
+        f.write_str(match self.0 {
+            ValueKind::Bool => "a bool is 0x00 or 0x01",
+            ValueKind::Int2 => "an int2 has 2 bytes",
+            ValueKind::Int4 => "an int4 has 4 bytes",
+            ValueKind::Int8 => "an int8 has 8 bytes",
+            ValueKind::Float4 => "a float4 has 4 bytes",
+            ValueKind::Float8 => "a float8 has 8 bytes",
+            ValueKind::TimestampTz => "a timestamptz has 8 bytes",
+            ValueKind::Raw => "",
+        })
+    }
+}
+
+impl<'a> Binary<'a> {
+    // The column at a position of a message, whose value is the part.
+    pub fn at(bytes: &[u8], from: Position, type_oid: u32, part: &'a [u8]) -> Binary<'a> {
+        Binary {
+            part,
+            type_oid,
+            value: values::typed_step(bytes, from, type_oid).item,
+        }
+    }
+
+    fn nan(self, is_usual: bool) -> Nan<'a> {
+        Nan(if is_usual { None } else { Some(self.part) })
+    }
+
+    fn write_value<W: fmt::Write>(self, f: &mut fmt::Formatter<W>, value: Value) -> fmt::Result {
+        match value {
+            Value::Bool(b) => write!(f, "bool {b}"),
+            Value::Int2(n) => write!(f, "int2 {n}"),
+            Value::Int4(n) => write!(f, "int4 {n}"),
+            Value::Int8(n) => write!(f, "int8 {n}"),
+            Value::Float4(x) => write!(f, "float4 {}", Float4(x)),
+            Value::Float4Nan(n) => write!(f, "float4 {}", self.nan(n == NAN4)),
+            Value::Float8(x) => write!(f, "float8 {}", Float8(x)),
+            Value::Float8Nan(n) => write!(f, "float8 {}", self.nan(n == NAN8)),
+            Value::TimestampTz(n) => write!(f, "timestamptz {}", Timestamp(n)),
+            Value::Raw { .. } => write!(f, "binary {}", Hex(self.part)),
+        }
+    }
+}
+
+impl fmt::Display for Binary<'_> {
+    fn fmt<W: fmt::Write>(&self, f: &mut fmt::Formatter<W>) -> fmt::Result {
+        match self.value {
+            Ok(Some(value)) => self.write_value(f, value),
+            Ok(None) => Ok(()),
+            Err(Refusal { number, offset }) => {
+                let part = Hex(self.part);
+                let form = Form(values::kind_of_type(self.type_oid));
+                write!(f, "binary {part} (refused {number} at {offset}: {form})")
+            }
         }
     }
 }

@@ -3,28 +3,26 @@ use Rattle.std.proofs.Common.{◌≡◌, ℕ, zero, suc, Bool, true, false, List
 use Rattle.wire.specs.Numbers.{be, word_at}
 use Rattle.wire.specs.Fields.{number_field, letter_field, member, text_field, until_zero, bytes_field, value_field}
 use Rattle.message.specs.declared.Message.TheVariants as a
-use Rattle.message.specs.declared.Read.{Read}
-use Rattle.message.specs.declared.Read.TheVariants as answer
+use Rattle.message.specs.Messages.{Read}
+use Rattle.std.specs.Prelude.{Result, Ok, Err, Option, Some, None}
+use Rattle.wire.specs.declared.Refusal.{Refusal}
+use Rattle.wire.specs.Cursors.{refuse}
 use Rattle.message.specs.Layout.{column_value, column_end, groups_end, tuple_end, optional, xid_field}
 use Rattle.message.specs.Kinds.{kind_among}
 use Rattle.message.specs.Versions.{version_allows, version_has}
-use Rattle.message.specs.Messages.{span, refuse, read_kind, read_message}
+use Rattle.message.specs.Messages.{span, read_kind, read_message}
 use Rattle.message.specs.Encode.{parts_of}
-use Rattle.session.specs.declared.Answer.{Answer as Said}
-use Rattle.session.specs.declared.Answer.TheVariants as said
+use Rattle.session.specs.Answers.{Answer as Said, Accepted, Change, Refused}
 use Rattle.session.specs.History.{Given, given}
 use Rattle.session.specs.Rules.{answers, answers_by}
 use Rattle.columns.specs.declared.Position.{Position}
-use Rattle.columns.specs.declared.Started.{Started}
-use Rattle.columns.specs.declared.Started.TheVariants as started
 use Rattle.columns.specs.declared.Which.TheVariants.{New}
 use Rattle.columns.specs.declared.Column.{Column}
-use Rattle.columns.specs.declared.Column.TheVariants.{Value, Over, Refused}
 use Rattle.columns.specs.declared.RelationColumn.{RelationColumn}
-use Rattle.columns.specs.declared.RelationColumn.TheVariants as column
 use Rattle.columns.specs.Parts.{span_within, part_of}
-use Rattle.columns.specs.Starts.{tuple_position, tuple_start, relation_start}
+use Rattle.columns.specs.Starts.{Started, tuple_position, tuple_start, relation_start}
 use Rattle.columns.specs.Steps.{tuple_step, relation_step}
+use Rattle.columns.specs.Readers.{span_of}
 
 -- what an example asks
 pub data Question : Type 0 where
@@ -37,9 +35,9 @@ pub data Question : Type 0 where
   -- what a fresh session of a version answers to messages, each tagged with its place in the list
   giving : ℕ → List (List ℕ) → Question
 
--- a column, and the bytes of its value or name
+-- a step, and the bytes of its column's value or name
 pub data Holds (A : Type 0) : Type 0 where
-  holds : A → List ℕ → Holds A
+  holds : Result (Option A) Refusal → List ℕ → Holds A
 
 pub data Answer : Type 0 where
   reads : Read → Answer
@@ -47,33 +45,28 @@ pub data Answer : Type 0 where
   relation_has : (namespace name : List ℕ) → List (Holds RelationColumn) → Answer
   answers_are : List Said → Answer
 
-pub value_bytes : List ℕ → Column → List ℕ
-value_bytes xs (Value letter start length) = part_of xs (record { start = start; length = length })
-value_bytes xs Over = []
-value_bytes xs (Refused n o) = []
-
-pub name_bytes : List ℕ → RelationColumn → List ℕ
-name_bytes xs (column.Column key name type modifier) = part_of xs name
-name_bytes xs column.Over = []
-name_bytes xs (column.Refused n o) = []
+pub name_bytes : List ℕ → Result (Option RelationColumn) Refusal → List ℕ
+name_bytes xs (Ok (Some c)) = part_of xs c.name
+name_bytes xs (Ok None) = []
+name_bytes xs (Err r) = []
 
 pub tuple_steps : List ℕ → ℕ → Position → List (Holds Column)
 tuple_steps xs zero p = []
-tuple_steps xs (suc n) p = let s = tuple_step xs p in holds s.column (value_bytes xs s.column) ∷ tuple_steps xs n s.next
+tuple_steps xs (suc n) p = let s = tuple_step xs p in holds s.item (part_of xs (span_of s.item)) ∷ tuple_steps xs n s.next
 
 pub relation_steps : List ℕ → ℕ → Position → List (Holds RelationColumn)
 relation_steps xs zero p = []
-relation_steps xs (suc n) p = let s = relation_step xs p in holds s.column (name_bytes xs s.column) ∷ relation_steps xs n s.next
+relation_steps xs (suc n) p = let s = relation_step xs p in holds s.item (name_bytes xs s.item) ∷ relation_steps xs n s.next
 
 -- the bytes of the text that is a part of a message's layout
 pub text_bytes : List ℕ → Read → ℕ → List ℕ
-text_bytes xs (answer.Message m) part = part_of xs (span (parts_of m) part)
-text_bytes xs (answer.Refused r) part = []
+text_bytes xs (Ok m) part = part_of xs (span (parts_of m) part)
+text_bytes xs (Err r) part = []
 
 -- as many steps as are left at a start
 pub from : {A : Type 0} → Started → (ℕ → Position → List A) → List A
-from (started.At p) steps = steps p.left p
-from (started.Refused r) steps = []
+from (Ok p) steps = steps p.left p
+from (Err r) steps = []
 
 pub read : ℕ → Bool → List ℕ → Read
 read version in_block bytes = read_message (record { number = version }) in_block bytes
@@ -97,6 +90,10 @@ pub record Example : Type 0 where
 pub example : Question → Answer → Example
 example q r = record { question = q; answer = r }
 
+-- a column of a tuple, with its letter, start and length
+pub value : ℕ → ℕ → ℕ → List ℕ → Holds Column
+value letter start length bytes = holds (Ok (Some (record { letter = letter; value = record { start = start; length = length } }))) bytes
+
 pub is : ℕ → Bool → List ℕ → Read → Example
 is version in_block bytes r = example (reading version in_block bytes) (reads r)
 
@@ -108,14 +105,14 @@ table =
     (refuse 2 0)
     -- 2
     ∷ is 2 false (0x45 ∷ [])
-    (answer.Message a.StreamStop)
+    (Ok a.StreamStop)
     ∷ is 1 false (0x45 ∷ [])
     (refuse 3 0)
     ∷ is 2 false (0x45 ∷ 0 ∷ [])
     (refuse 5 1)
     -- 3
     ∷ is 1 false (0x42 ∷ 0 ∷ 0 ∷ 0 ∷ 0 ∷ 0 ∷ 0 ∷ 0 ∷ 0x10 ∷ 0 ∷ 0 ∷ 0 ∷ 0 ∷ 0 ∷ 0 ∷ 0 ∷ 0 ∷ 0 ∷ 0 ∷ 0 ∷ 7 ∷ [])
-    (answer.Message (a.Begin (record { final_lsn = 16; time = pos 0; xid = 7 })))
+    (Ok (a.Begin (record { final_lsn = 16; time = pos 0; xid = 7 })))
     -- 4
     ∷ is 1 false (0x42 ∷ 0 ∷ 0 ∷ 0 ∷ 0 ∷ 0 ∷ 0 ∷ 0 ∷ 0x10 ∷ 0 ∷ 0 ∷ 0 ∷ 0 ∷ 0 ∷ 0 ∷ 0 ∷ 0 ∷ 0 ∷ 0 ∷ 0 ∷ [])
     (refuse 2 17)
@@ -125,9 +122,9 @@ table =
     (refuse 5 21)
     -- 5
     ∷ is 1 false (0x49 ∷ 0 ∷ 0 ∷ 0 ∷ 5 ∷ 0x4E ∷ 0 ∷ 2 ∷ 0x6E ∷ 0x74 ∷ 0 ∷ 0 ∷ 0 ∷ 1 ∷ 0x61 ∷ [])
-    (answer.Message (a.Insert (record { xid = 0; relation = 5; tuple = 6 })))
+    (Ok (a.Insert (record { xid = 0; relation = 5; tuple = 6 })))
     ∷ example (tuple_columns 1 false (0x49 ∷ 0 ∷ 0 ∷ 0 ∷ 5 ∷ 0x4E ∷ 0 ∷ 2 ∷ 0x6E ∷ 0x74 ∷ 0 ∷ 0 ∷ 0 ∷ 1 ∷ 0x61 ∷ []))
-    (tuple_has (holds (Value 0x6E 0 0) [] ∷ holds (Value 0x74 14 1) (0x61 ∷ []) ∷ []))  -- null, then "a"
+    (tuple_has (value 0x6E 0 0 [] ∷ value 0x74 14 1 (0x61 ∷ []) ∷ []))  -- null, then "a"
     -- 6
     ∷ is 1 false (0x49 ∷ 0 ∷ 0 ∷ 0 ∷ 5 ∷ 0x4E ∷ 0 ∷ 2 ∷ 0x6E ∷ 0x74 ∷ 0 ∷ 0 ∷ 0 ∷ 2 ∷ 0x61 ∷ [])
     (refuse 2 14)
@@ -135,14 +132,14 @@ table =
     (refuse 4 10)
     -- 7
     ∷ is 2 true (0x49 ∷ 0 ∷ 0 ∷ 0 ∷ 9 ∷ 0 ∷ 0 ∷ 0 ∷ 5 ∷ 0x4E ∷ 0 ∷ 0 ∷ [])
-    (answer.Message (a.Insert (record { xid = 9; relation = 5; tuple = 10 })))
+    (Ok (a.Insert (record { xid = 9; relation = 5; tuple = 10 })))
     ∷ example (tuple_columns 2 true (0x49 ∷ 0 ∷ 0 ∷ 0 ∷ 9 ∷ 0 ∷ 0 ∷ 0 ∷ 5 ∷ 0x4E ∷ 0 ∷ 0 ∷ []))
     (tuple_has [])
     -- 8
     ∷ is 1 false (0x52 ∷ 0 ∷ 0 ∷ 0 ∷ 5 ∷ 0 ∷ 0x74 ∷ 0 ∷ 0x64 ∷ 0 ∷ 1 ∷ 1 ∷ 0x69 ∷ 0x64 ∷ 0 ∷ 0 ∷ 0 ∷ 0 ∷ 0x17 ∷ 0xFF ∷ 0xFF ∷ 0xFF ∷ 0xFF ∷ [])
-    (answer.Message (a.Relation (record { xid = 0; relation = 5; namespace = record { start = 5; length = 0 }; name = record { start = 6; length = 1 }; identity = 0x64; count = 1; columns = 11 })))
+    (Ok (a.Relation (record { xid = 0; relation = 5; namespace = record { start = 5; length = 0 }; name = record { start = 6; length = 1 }; identity = 0x64; count = 1; columns = 11 })))
     ∷ example (relation_texts 1 false (0x52 ∷ 0 ∷ 0 ∷ 0 ∷ 5 ∷ 0 ∷ 0x74 ∷ 0 ∷ 0x64 ∷ 0 ∷ 1 ∷ 1 ∷ 0x69 ∷ 0x64 ∷ 0 ∷ 0 ∷ 0 ∷ 0 ∷ 0x17 ∷ 0xFF ∷ 0xFF ∷ 0xFF ∷ 0xFF ∷ []))
-    (relation_has [] (0x74 ∷ []) (holds (column.Column 1 (record { start = 12; length = 2 }) 23 (negsuc 0)) (0x69 ∷ 0x64 ∷ []) ∷ []))  -- "t", with "id"
+    (relation_has [] (0x74 ∷ []) (holds (Ok (Some (record { key = 1; name = record { start = 12; length = 2 }; type_oid = 23; modifier = negsuc 0 }))) (0x69 ∷ 0x64 ∷ []) ∷ []))  -- "t", with "id"
     -- 10
     ∷ example
     (giving 2
@@ -157,9 +154,9 @@ table =
     ∷ (0x49 ∷ 0 ∷ 0 ∷ 0 ∷ 5 ∷ 0x4E ∷ 0 ∷ 1 ∷ 0x6E ∷ [])  -- I into 5 with one column
     ∷ (0x49 ∷ 0 ∷ 0 ∷ 0 ∷ 5 ∷ 0x4E ∷ 0 ∷ 2 ∷ 0x6E ∷ 0x6E ∷ [])  -- and with two
     ∷ []))
-    (answers_are (said.Accepted ∷ said.Accepted ∷ said.Accepted ∷ said.Accepted ∷ said.Refused 9 0 ∷ said.Accepted ∷ said.Accepted ∷ said.Accepted ∷ said.Change 1 0x64 1 ∷ said.Refused 10 0 ∷ []))
+    (answers_are (Accepted ∷ Accepted ∷ Accepted ∷ Accepted ∷ Refused 9 0 ∷ Accepted ∷ Accepted ∷ Accepted ∷ Change 1 0x64 1 ∷ Refused 10 0 ∷ []))
     ∷ []
 
 pub marked : map (λ (e : Example). ask e.question) table ≡ map (λ (e : Example). e.answer) table
-unfolding ask read tagged answers_by from tuple_steps relation_steps value_bytes name_bytes text_bytes span_within example is table tuple_position tuple_step relation_step read_message read_kind kind_among version_allows version_has value_field column_value column_end groups_end tuple_end optional xid_field be word_at number_field letter_field member text_field until_zero bytes_field
+unfolding ask read tagged answers_by from tuple_steps relation_steps name_bytes text_bytes span_within example value is table tuple_position tuple_step relation_step read_message read_kind kind_among version_allows version_has value_field column_value column_end groups_end tuple_end optional xid_field be word_at number_field letter_field member text_field until_zero bytes_field
 marked = refl

@@ -1,21 +1,20 @@
 -- For contracts only. What the answers of two readers are compared by
-use Rattle.std.specs.Prelude.{◌≡◌, ℕ, ◌<◌, slice_index}
-use Rattle.message.specs.declared.Read.{Read}
-use Rattle.message.specs.declared.Read.TheVariants.{Message, Refused}
-use Rattle.second_reader.specs.declared.Seen.{Seen}
+use Rattle.std.specs.Prelude.{ℕ, Result, Ok, Err}
+use Rattle.wire.specs.declared.Refusal.{Refusal}
+use Rattle.message.specs.Messages.{Read}
+use Rattle.second_reader.specs.declared.seen.Seen.{Seen}
 
--- the number and the offset that the second reader gives where the reader gives this, for a message of some size
-abbrev pub number_of : Read → ℕ
-number_of (Message m) = 0
-number_of (Refused x) = x.number
+-- the number of a refusal, and 0 where there is none
+abbrev pub number_of : {A : Type 0} → Result A Refusal → ℕ
+number_of (Ok x) = 0
+number_of (Err r) = r.number
 
+-- the offset that the second reader gives where the reader gives this, for a message of some size
 abbrev pub offset_of : ℕ → Read → ℕ
-offset_of size (Message m) = size
-offset_of size (Refused x) = x.offset
+offset_of size (Ok m) = size
+offset_of size (Err r) = r.offset
 
--- two answers are the same
-pub record Same (a b : Seen) : Type 0 where
-  pub number : a.number ≡ b.number
-  pub offset : a.offset ≡ b.offset
-  pub count : a.count ≡ b.count
-  pub values : (k : ℕ) → k < 16 → slice_index a.values k ≡ slice_index b.values k
+-- the offset of an answer
+abbrev pub told_offset : Result Seen Refusal → ℕ
+told_offset (Ok seen) = seen.length
+told_offset (Err r) = r.offset

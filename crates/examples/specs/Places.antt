@@ -1,19 +1,11 @@
--- For contracts only. Places in a text
-use Rattle.std.specs.Prelude.{ℕ, ◌<◌, ◌≤◌}
-use Rattle.examples.specs.declared.text.Hex.{Hex}
+-- For contracts only. What is left of a text after a part of it was read, by what was left before
+use Rattle.std.specs.Prelude.{ℕ, ◌<◌, ◌≤◌, List, length}
 
--- a place in a text of some size, not before the one that was started from
-pub record Onward (from size r : ℕ) : Type 0 where
-  pub within : r ≤ size
-  pub onward : from ≤ size → from ≤ r
+-- no more than before
+abbrev pub Onward : List ℕ → List ℕ → Type 0
+Onward before after = length after ≤ length before
 
--- one that lies further on, unless the text is at its end
-pub record Beyond (from size r : ℕ) : Type 0 where
-  pub within : r ≤ size
-  pub beyond : from < size → from < r
-
--- a piece of hex, read in a text of some size into a message with some room
-pub record Pieced (at size room : ℕ) (r : Hex) : Type 0 where
-  pub beyond : at < r.next
-  pub within : r.next ≤ size
-  pub fits : r.size ≤ room
+-- less, unless nothing was left
+pub record Beyond (before after : List ℕ) : Type 0 where
+  pub within : length after ≤ length before
+  pub beyond : 0 < length before → length after < length before

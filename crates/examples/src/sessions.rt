@@ -4,79 +4,44 @@
 //
 // gives it a message, tagged with how many it was given before; the tag, identity and columns are those of a change's announcement.
 // With `+ 200 @ 4` the message is given 200 times, and its byte at 4 is one more each time.
-use crate::{Tally, text};
-use second_reader::Seen;
+use crate::Tally;
+use crate::answers::Told;
+use crate::text::{self, Bytes, Text};
+use second_reader::Values;
 use session::{Answer, Session, Stepped};
 
-// A session, how many messages it was given, and on how many its answer was the one that stands there.
+// A session, and how many messages it was given.
 #[derive(Clone, Copy)]
 struct Running {
     session: Session,
     given: u64,
-    tally: Tally,
 }
 
-fn seen(answer: Answer) -> Seen {
-    let mut values = [0u64; 16];
+fn told(answer: Answer) -> Told {
     match answer {
-        Answer::Accepted => Seen {
+        Ok(None) => Told {
             number: 0,
             offset: 0,
-            count: 1,
-            values,
+            values: Values::new(),
         },
-        Answer::Change {
-            tag,
-            identity,
-            columns,
-        } => {
-            values[1] = tag;
-            values[2] = identity as u64;
-            values[3] = columns as u64;
-            Seen {
-                number: 0,
-                offset: 0,
-                count: 4,
-                values,
-            }
-        }
-        Answer::Refused { number, offset } => Seen {
-            number,
-            offset,
-            count: 1,
-            values,
+        Ok(Some(seen)) => Told {
+            number: 0,
+            offset: 0,
+            values: Values::of(&[seen.tag, u64::from(seen.identity), u64::from(seen.columns)]),
         },
+        Err(refusal) => Told::from(refusal),
     }
 }
 
 // Whether an answer is the one that stands in a line.
-pub fn is_said(rt: &impl Print, said: Answer, line: &[u8], answer: usize) -> bool {
-    let saw = seen(said);
-    let is_agreed = crate::is_answer(text::back(line, answer), saw);
+pub fn is_said(rt: &impl Print, said: Answer, line: &[u8], answer: &[u8]) -> bool {
+    let told = told(said);
+    let is_agreed = told.is_said(answer);
     if !is_agreed {
-        crate::print(rt, b"  session ");
-        crate::print_answer(rt, saw);
-        crate::print(rt, b" to ");
+        let _ = print!(rt; "  session {told} to ");
         crate::print(rt, line);
     }
     is_agreed
-}
-
-fn give(rt: &impl Print, run: Running, bytes: &[u8], line: &[u8], answer: usize) -> Running {
-    let Running {
-        session,
-        given,
-        tally,
-    } = run;
-    let Stepped {
-        session: after,
-        answer: said,
-    } = session::step(session, bytes, given);
-    Running {
-        session: after,
-        given: std::num::wrapping_add_u64(given, 1),
-        tally: tally.with(is_said(rt, said, line, answer)),
-    }
 }
 
 // How often a message is given, and the offset of the byte that counts.
@@ -84,82 +49,78 @@ fn give(rt: &impl Print, run: Running, bytes: &[u8], line: &[u8], answer: usize)
 struct Repetition {
     count: u64,
     at: usize,
-    next: usize,
 }
 
-fn repeats(line: &[u8]) -> Repetition {
-    let count = text::read_decimal(line, 1);
-    let mark = text::skip_spaces(line, count.next);
-    if text::byte_at(line, mark) != b'@' {
-        return Repetition {
-            count: 1,
-            at: 0,
-            next: 1,
-        };
-    }
-    let at = text::read_decimal(line, std::num::wrapping_add_usize(mark, 1));
-    Repetition {
-        count: count.value,
-        at: at.value as usize,
-        next: at.next,
+impl Repetition {
+    // What stands in front of a message's bytes, if anything does.
+    fn read(text: &mut Text) -> Repetition {
+        let mut front = *text;
+        let count = front.number();
+        front.skip_spaces();
+        if front.peek() != b'@' {
+            return Repetition { count: 1, at: 0 };
+        }
+        front.skip(1);
+        let at = front.number() as usize;
+        *text = front;
+        Repetition { count, at }
     }
 }
 
-fn give_line(rt: &impl Print, run: Running, line: &[u8], message: &mut [u8]) -> Running {
-    let times = repeats(line);
-    let hex = text::hex_bytes(line, times.next, b'=', message);
-    let answer = std::num::wrapping_add_usize(hex.next, 1);
-    if !hex.good {
-        crate::print(rt, b"  not a message: ");
-        crate::print(rt, line);
-    }
-    let mut sum = run;
-    let mut left = times.count;
-    while 0 < left {
-        sum = give(rt, sum, text::front(message, hex.size), line, answer);
-        let counted = text::byte_at(message, times.at);
-        text::put(message, times.at, std::num::wrapping_add_u8(counted, 1));
-        left -= 1;
-    }
-    sum
-}
-
-pub fn fresh(line: &[u8]) -> Session {
-    let version = text::read_decimal(line, 1);
-    if version.good {
-        session::start((version.value % 4_294_967_296) as u32)
-    } else {
-        session::start_default()
+// A session of the version that is named next, if one is.
+pub fn fresh(text: &mut Text) -> Session {
+    match text.decimal() {
+        Some(version) => session::start((version & 0xFFFF_FFFF) as u32),
+        None => session::start_default(),
     }
 }
 
-fn run_line(rt: &impl Print, run: Running, line: &[u8], message: &mut [u8]) -> Running {
-    match text::byte_at(line, 0) {
-        b'>' => {
-            let tally = run.tally;
-            Running {
-                session: fresh(line),
-                given: 0,
-                tally,
+impl Running {
+    fn give(&mut self, bytes: &[u8]) -> Answer {
+        let Stepped { session, answer } = session::step(self.session, bytes, self.given);
+        self.session = session;
+        self.given = self.given.wrapping_add(1);
+        answer
+    }
+
+    fn give_line(&mut self, rt: &impl Print, tally: &mut Tally, line: &[u8], message: &mut Bytes) {
+        let mut text = Text::behind_first(line);
+        let Repetition { count, at } = Repetition::read(&mut text);
+        if text.hex(b'=', message).is_none() {
+            crate::print(rt, b"  not a message: ");
+            crate::print(rt, line);
+        }
+        text.skip(1);
+        for _ in 0..count {
+            let said = self.give(message.as_slice());
+            tally.count(is_said(rt, said, line, text.rest));
+            if let Some(counted) = message.get_mut(at) {
+                *counted = counted.wrapping_add(1);
             }
         }
-        b'+' => give_line(rt, run, line, message),
-        _ => run,
+    }
+
+    fn run_line(&mut self, rt: &impl Print, tally: &mut Tally, line: &[u8], message: &mut Bytes) {
+        match text::byte_at(line, 0) {
+            b'>' => {
+                *self = Running {
+                    session: fresh(&mut Text::behind_first(line)),
+                    given: 0,
+                }
+            }
+            b'+' => self.give_line(rt, tally, line, message),
+            _ => {}
+        }
     }
 }
 
 // The lines of a group that concern a session.
-pub fn run_lines(rt: &impl Print, tally: Tally, lines: &[u8], message: &mut [u8]) -> Tally {
+pub fn run_lines(rt: &impl Print, tally: &mut Tally, lines: &[u8], message: &mut Bytes) {
     let mut run = Running {
         session: session::start_default(),
         given: 0,
-        tally,
     };
-    let mut at = 0;
-    while at < lines.len() {
-        let next = text::next_line(lines, at);
-        run = run_line(rt, run, &lines[at..next], message);
-        at = next;
+    for line in lines.split_inclusive(text::is_line_end) {
+        run.run_line(rt, tally, line, message);
     }
-    run.tally
 }

@@ -1,21 +1,81 @@
 // Reads patterns of every type that has numbers, and writes them back: all of a bool and of an int2; of the others every sign and exponent
 // of a float of that width, with some patterns of the bits behind. What a pattern stands for is worked out here.
-use crate::wanted::Want;
-use crate::writing::byte;
-use crate::{Tally, everywhere, text, wanted};
-use values::{TypedColumn, TypedMoved};
+use crate::wanted::{Signed, Want};
+use crate::{Tally, everywhere, text};
+use columns::{Position, Step};
+use second_reader::Reason;
 use wire::Refusal;
 
 // A type: its OID, its letter as in `typed`, how many bytes its values have, and how many patterns are tried of the bits in front and of
 // those behind.
 #[derive(Clone, Copy)]
 struct Sweep {
+    name: &'static str,
     type_oid: u32,
     letter: u8,
     width: u8,
     fronts: u64,
     behinds: usize,
 }
+
+const SWEEPS: [Sweep; 7] = [
+    Sweep {
+        name: "every bool",
+        type_oid: 16,
+        letter: b'b',
+        width: 1,
+        fronts: 256,
+        behinds: 1,
+    },
+    Sweep {
+        name: "every int2",
+        type_oid: 21,
+        letter: b's',
+        width: 2,
+        fronts: 65536,
+        behinds: 1,
+    },
+    Sweep {
+        name: "int4",
+        type_oid: 23,
+        letter: b'i',
+        width: 4,
+        fronts: 512,
+        behinds: 6,
+    },
+    Sweep {
+        name: "int8",
+        type_oid: 20,
+        letter: b'l',
+        width: 8,
+        fronts: 4096,
+        behinds: 6,
+    },
+    Sweep {
+        name: "float4 of every sign and exponent",
+        type_oid: 700,
+        letter: b'f',
+        width: 4,
+        fronts: 512,
+        behinds: 6,
+    },
+    Sweep {
+        name: "float8 of every sign and exponent",
+        type_oid: 701,
+        letter: b'd',
+        width: 8,
+        fronts: 4096,
+        behinds: 6,
+    },
+    Sweep {
+        name: "timestamptz",
+        type_oid: 1184,
+        letter: b'z',
+        width: 8,
+        fronts: 4096,
+        behinds: 6,
+    },
+];
 
 // A format of floats: the largest exponent, the digit in front that a number has unless its exponent is 0, and by which power of 2 the
 // last digit of those is smaller than 1.
@@ -49,10 +109,6 @@ const BEHIND: [u64; 6] = [
     0x9_1A2B_3C4D_5E6F,
 ];
 
-fn behind(k: usize) -> u64 {
-    if k < 6 { BEHIND[k] } else { 0 }
-}
-
 // The pattern with these bits in front and behind.
 fn pattern(width: u8, front: u64, behind: u64) -> u64 {
     match width {
@@ -72,24 +128,15 @@ fn column(width: u8, number: u64) -> [u8; 13] {
     };
     let mut c = *b"b\x00\x00\x00\x00\x00\x00\x00\x00\x00\x00\x00\x00";
     c[4] = width;
-    c[5] = byte(n >> 56);
-    c[6] = byte(n >> 48);
-    c[7] = byte(n >> 40);
-    c[8] = byte(n >> 32);
-    c[9] = byte(n >> 24);
-    c[10] = byte(n >> 16);
-    c[11] = byte(n >> 8);
-    c[12] = byte(n);
+    c[5..].copy_from_slice(&n.to_be_bytes());
     c
 }
 
-fn number(letter: u8, negative: bool, first: u64) -> Want {
+fn number(letter: u8, negative: bool, value: u64) -> Want {
     Want {
         letter,
-        negative,
-        first,
-        down: false,
-        second: 0,
+        first: Signed { negative, value },
+        second: Signed::ZERO,
     }
 }
 
@@ -98,18 +145,19 @@ fn signed(letter: u8, pattern: u64, half: u64) -> Want {
     if pattern < half {
         return number(letter, false, pattern);
     }
-    let all = std::num::wrapping_add_u64(half, half);
-    number(letter, true, std::num::wrapping_sub_u64(all, pattern))
+    let all = half.wrapping_add(half);
+    number(letter, true, all.wrapping_sub(pattern))
 }
 
 // A number times a power of 2, which is below 1 as long as `up` is less than `down`.
-fn scaled(letter: u8, negative: bool, first: u64, up: u64, down: u64) -> Want {
+fn scaled(letter: u8, negative: bool, value: u64, up: u64, down: u64) -> Want {
     Want {
         letter,
-        negative,
-        first,
-        down: up < down,
-        second: if up < down { down - up } else { up - down },
+        first: Signed { negative, value },
+        second: Signed {
+            negative: up < down,
+            value: up.abs_diff(down),
+        },
     }
 }
 
@@ -121,18 +169,13 @@ fn float(letter: u8, pattern: u64, front: u64, behind: u64, format: Format) -> W
         return scaled(letter, negative, behind, 0, format.down);
     }
     if exponent < format.most {
-        return scaled(
-            letter,
-            negative,
-            behind | format.front,
-            exponent - 1,
-            format.down,
-        );
+        let digits = behind | format.front;
+        return scaled(letter, negative, digits, exponent - 1, format.down);
     }
     if behind == 0 {
         return scaled(letter, negative, 1, 1024, 0);
     }
-    number(letter & 0x5F, false, pattern)
+    number(letter.to_ascii_uppercase(), false, pattern)
 }
 
 // What a pattern stands for.
@@ -164,65 +207,35 @@ fn is_read(sweep: Sweep, pattern: u64) -> bool {
     let column = column(width, pattern);
     let bytes = text::front(&column, 5 + width as usize);
     let is_bad = letter == b'b' && 1 < pattern;
-    let TypedMoved { column, .. } = values::typed_at(bytes, 0, 1, type_oid);
-    let is_right = match column {
-        TypedColumn::Value(value) => !is_bad && wanted::is_value(value, meant(letter, pattern)),
-        TypedColumn::Refused { number, offset } => {
-            is_bad && number == Refusal::VALUE && offset == 5
+    let front = Position { offset: 0, left: 1 };
+    let Step { item, .. } = values::typed_step(bytes, front, type_oid);
+    let is_right = match item {
+        Ok(Some(value)) => !is_bad && meant(letter, pattern).is_value(value),
+        Ok(None) => false,
+        Err(Refusal { number, offset }) => {
+            is_bad && number == Reason::Value.number() && offset == 5
         }
-        TypedColumn::Over => false,
     };
-    is_right && everywhere::agrees(bytes, 0, 1, type_oid)
+    is_right && everywhere::agrees(bytes, front, type_oid)
 }
 
-fn run_behind(tally: Tally, sweep: Sweep, front: u64) -> Tally {
-    let mut sum = tally;
-    let mut k: usize = 0;
-    while k < sweep.behinds {
-        sum = sum.with(is_read(sweep, pattern(sweep.width, front, behind(k))));
-        k += 1;
+fn run_behind(tally: &mut Tally, sweep: Sweep, front: u64) {
+    for behind in BEHIND.iter().take(sweep.behinds) {
+        tally.count(is_read(sweep, pattern(sweep.width, front, *behind)));
     }
-    sum
 }
 
-fn run_type(rt: &impl Print, name: &[u8], sweep: Sweep) {
-    let mut sum = Tally {
-        cases: 0,
-        agreed: 0,
-    };
-    let mut front: u64 = 0;
-    while front < sweep.fronts {
-        sum = run_behind(sum, sweep, front);
-        front += 1;
+fn run_type(rt: &impl Print, sweep: Sweep) {
+    let mut tally = Tally::default();
+    for front in 0..sweep.fronts {
+        run_behind(&mut tally, sweep, front);
     }
-    crate::print(rt, name);
-    crate::print_tally(rt, sum);
-}
-
-fn typed(type_oid: u32, letter: u8, width: u8, fronts: u64, behinds: usize) -> Sweep {
-    Sweep {
-        type_oid,
-        letter,
-        width,
-        fronts,
-        behinds,
-    }
+    let name = sweep.name;
+    let _ = println!(rt; "values, {name}: {tally}");
 }
 
 pub fn run(rt: &impl Print) {
-    run_type(rt, b"values, every bool", typed(16, b'b', 1, 256, 1));
-    run_type(rt, b"values, every int2", typed(21, b's', 2, 65536, 1));
-    run_type(rt, b"values, int4", typed(23, b'i', 4, 512, 6));
-    run_type(rt, b"values, int8", typed(20, b'l', 8, 4096, 6));
-    run_type(
-        rt,
-        b"values, float4 of every sign and exponent",
-        typed(700, b'f', 4, 512, 6),
-    );
-    run_type(
-        rt,
-        b"values, float8 of every sign and exponent",
-        typed(701, b'd', 8, 4096, 6),
-    );
-    run_type(rt, b"values, timestamptz", typed(1184, b'z', 8, 4096, 6));
+    for sweep in SWEEPS {
+        run_type(rt, sweep);
+    }
 }

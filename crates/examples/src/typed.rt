@@ -10,36 +10,36 @@
 //   F  D  a NaN of these: its bits
 //   r     a value of another type: its start and length
 //   o     no value: none was left
-use crate::everywhere::is_position;
-use crate::{Tally, everywhere, text, wanted};
-use columns::Position;
-use values::{TypedColumn, TypedStep, Value, ValueKind};
+use crate::text::{self, Bytes, Text};
+use crate::wanted::Want;
+use crate::{Tally, everywhere};
+use columns::{Position, Step};
+use values::{Value, ValueKind};
 
-// A case, whose bytes are the first `size` of the message, and where in the line its answer stands.
+// A case beside its bytes, and its answer.
 #[derive(Clone, Copy)]
-struct Case {
-    good: bool,
+struct Case<'a> {
     type_oid: u32,
-    offset: usize,
-    left: usize,
-    size: usize,
-    answer: usize,
+    from: Position,
+    answer: Text<'a>,
 }
 
-// The case of a line, and its bytes at the start of the message.
-fn parse_case(line: &[u8], message: &mut [u8]) -> Case {
-    let oid = text::read_decimal(line, 1);
-    let offset = text::read_decimal(line, oid.next);
-    let left = text::read_decimal(line, offset.next);
-    let hex = text::hex_bytes(line, left.next, b'=', message);
-    Case {
-        good: oid.good && offset.good && left.good && hex.good,
-        type_oid: (oid.value % 0x1_0000_0000) as u32,
-        offset: offset.value as usize,
-        left: left.value as usize,
-        size: hex.size,
-        answer: std::num::wrapping_add_usize(hex.next, 1),
-    }
+// The case of a line, and its bytes.
+fn parse_case<'a>(line: &'a [u8], message: &mut Bytes) -> Option<Case<'a>> {
+    let mut text = Text::behind_first(line);
+    let oid = text.decimal();
+    let offset = text.decimal();
+    let left = text.decimal();
+    text.hex(b'=', message)?;
+    text.skip(1);
+    Some(Case {
+        type_oid: (oid? & 0xFFFF_FFFF) as u32,
+        from: Position {
+            offset: offset? as usize,
+            left: left? as usize,
+        },
+        answer: text,
+    })
 }
 
 fn letter_of(kind: ValueKind) -> u8 {
@@ -55,59 +55,59 @@ fn letter_of(kind: ValueKind) -> u8 {
     }
 }
 
-// Whether a value is the one that stands in a line, and of its kind: a NaN's letter is its kind's, in capitals.
-fn is_told(value: Value, line: &[u8], at: usize) -> bool {
-    let want = wanted::read(line, at);
-    let small = want.letter | 0x20;
-    letter_of(values::kind_of(value)) == small && wanted::is_value(value, want)
+// Whether a value is the one that is wanted, and of its kind: a NaN's letter is its kind's, in capitals.
+fn is_told(value: Value, want: Want) -> bool {
+    letter_of(values::kind_of(value)) == want.letter.to_ascii_lowercase() && want.is_value(value)
 }
 
-// Whether a step gives what stands in a line from an offset on.
-fn is_stepped(case: Case, bytes: &[u8], line: &[u8]) -> bool {
-    let from = Position {
-        offset: case.offset,
-        left: case.left,
-    };
-    let TypedStep { column, next } = values::typed_step(bytes, from, case.type_oid);
-    let number = text::read_decimal(line, case.answer);
-    let offset = text::read_decimal(line, number.next);
-    let told = std::num::wrapping_add_usize(offset.next, 1);
-    let at = offset.value as usize;
-    if !number.good || !offset.good {
+// Whether a step gives what stands in a line.
+fn is_stepped(case: Case, bytes: &[u8]) -> bool {
+    let Case {
+        type_oid,
+        from,
+        answer: mut text,
+    } = case;
+    let (Some(number), Some(offset)) = (text.decimal(), text.decimal()) else {
         return false;
-    }
-    match column {
-        TypedColumn::Value(value) => {
-            let left = std::num::wrapping_sub_usize(case.left, 1);
-            number.value == 0 && is_position(next, at, left) && is_told(value, line, told)
+    };
+    text.skip(1);
+    let at = offset as usize;
+    let Step { item, next } = values::typed_step(bytes, from, type_oid);
+    match item {
+        Ok(Some(value)) => {
+            let left = from.left.wrapping_sub(1);
+            number == 0 && next == Position { offset: at, left } && is_told(value, Want::read(text))
         }
-        TypedColumn::Over => {
-            let letter = wanted::read(line, told).letter;
-            number.value == 0 && letter == b'o' && is_position(next, at, 0) && at == case.offset
+        Ok(None) => {
+            let letter = Want::read(text).letter;
+            let over = Position {
+                offset: at,
+                left: 0,
+            };
+            number == 0 && letter == b'o' && next == over && at == from.offset
         }
-        TypedColumn::Refused {
-            number: n,
-            offset: o,
-        } => { number.value == n as u64 && at == o && is_position(next, case.offset, case.left) }
+        Err(refusal) => {
+            number == u64::from(refusal.number) && at == refusal.offset && next == from
+        }
     }
 }
 
 // The value of a line.
-pub fn run_case(rt: &impl Print, tally: Tally, line: &[u8], message: &mut [u8]) -> Tally {
+pub fn run_case(rt: &impl Print, tally: &mut Tally, line: &[u8], message: &mut Bytes) {
     let case = parse_case(line, message);
-    let bytes = text::front(message, case.size);
-    let is_good = case.good
-        && is_stepped(case, bytes, line)
-        && everywhere::agrees(bytes, case.offset, case.left, case.type_oid);
+    let bytes = message.as_slice();
+    let is_good = case.is_some_and(|case| {
+        is_stepped(case, bytes) && everywhere::agrees(bytes, case.from, case.type_oid)
+    });
     if !is_good {
         crate::print(rt, b"  ");
         crate::print(rt, line);
     }
-    tally.with(is_good)
+    tally.count(is_good);
 }
 
 // The bytes of a line from every offset.
-pub fn run_everywhere(rt: &impl Print, tally: Tally, line: &[u8], message: &mut [u8]) -> Tally {
-    let case = parse_case(line, message);
-    everywhere::run(rt, tally, text::front(message, case.size))
+pub fn run_everywhere(rt: &impl Print, tally: &mut Tally, line: &[u8], message: &mut Bytes) {
+    parse_case(line, message);
+    everywhere::run(rt, tally, message.as_slice());
 }

@@ -1,171 +1,230 @@
-// The messages of feeds that lie one after another in a room, as a list: those of the blocks, block after block, and behind them those
-// outside of blocks. The plan is an array with where the record of each message starts; from FIRSTS on which message each block begins
-// with, then which is the first outside of blocks, then how many there are; from ORDER on the blocks in the order in which they are given,
-// and the rest as one more.
-use crate::giving::HEAD;
-use crate::records;
+// The messages of feeds that lie one after another, in a plan: block after block, and behind the blocks the messages outside of them.
+ghost use Rattle.std.specs.Prelude.{◌≡◌, ◌-◌, vec_len};
 
-// There is room for so many messages, and for one block fewer than this.
-pub const MESSAGES: usize = 2048;
+use crate::giving::Sessions;
+use crate::notes::Note;
+use crate::records::{FEED, Records};
+use std::alloc::{AllocError, Global};
 
-pub const BLOCKS: usize = 64;
+// A plan has at most so many messages, and fewer blocks than this.
+const MESSAGES: usize = 2048;
 
-const FIRSTS: usize = MESSAGES;
+const BLOCKS: usize = 64;
 
-const ORDER: usize = FIRSTS + BLOCKS + 1;
+// The version of the feeds.
+const VERSION: u32 = 2;
 
-pub const PLAN: usize = ORDER + BLOCKS;
-
+// A message with its index in the recorded order, and what it got in that order and in the present one.
 #[derive(Clone, Copy)]
-pub struct Listed {
-    pub messages: usize,
-    pub blocks: usize,
+struct Planned<'a> {
+    bytes: &'a [u8],
+    index: u64,
+    recorded: Option<Note>,
+    present: Option<Note>,
+}
+
+// A block of messages, and the xid behind the letter of the first.
+#[derive(Drop)]
+struct Block<'a> {
+    xid: [u8; 4],
+    messages: Vec<Planned<'a>>,
+}
+
+// The blocks in the order in which they are given; what is outside of blocks is one more, behind those that were recorded. How many
+// messages there are, and how many of them are in blocks; whether the next one to be listed is.
+#[derive(Drop)]
+pub struct Plan<'a> {
+    blocks: Vec<Block<'a>>,
     in_block: bool,
+    pub messages: usize,
+    pub in_blocks: usize,
 }
 
-fn sum(a: usize, b: usize) -> usize {
-    std::num::wrapping_add_usize(a, b)
+// What came of an exchange: the blocks are of one transaction; or they stay, if no message of theirs was refused in either order.
+#[derive(Clone, Copy, PartialEq)]
+pub enum Turned {
+    OneTransaction,
+    Stays,
+    Refused,
 }
 
-// The number at an index, and 0 past the last.
-pub fn at(plan: &[usize], i: usize) -> usize {
-    if i < plan.len() { plan[i] } else { 0 }
+// A message that is shorter is taken to go on with zeros.
+fn xid_of(message: &[u8]) -> [u8; 4] {
+    let mut xid = [0u8; 4];
+    for (to, from) in xid.iter_mut().zip(message.iter().skip(1)) {
+        *to = *from;
+    }
+    xid
 }
 
-// Puts a number at an index, and nothing past the last.
-pub fn put(plan: &mut [usize], i: usize, n: usize) {
-    if i < plan.len() {
-        plan[i] = n;
+// Whether what follows a message is in a block: with a Stream Start one begins, and with a Stream Stop it ends.
+pub fn stays_in_block(in_block: bool, message: &[u8]) -> bool {
+    match message.first() {
+        Some(b'S') => true,
+        Some(b'E') => false,
+        _ => in_block,
     }
 }
 
-pub fn byte_at(bytes: &[u8], i: usize) -> u8 {
-    if i < bytes.len() { bytes[i] } else { 0 }
+fn is_refused(note: Option<Note>) -> bool {
+    note.is_some_and(|note| note.answer.is_err())
 }
 
-// The first message of a block.
-pub fn first_of(plan: &[usize], block: usize) -> usize {
-    at(plan, sum(FIRSTS, block))
-}
-
-// The message behind its last.
-pub fn end_of(plan: &[usize], block: usize) -> usize {
-    at(plan, sum(FIRSTS + 1, block))
-}
-
-// The block that is given as number `k`.
-pub fn block_at(plan: &[usize], k: usize) -> usize {
-    at(plan, sum(ORDER, k))
-}
-
-// The message whose record starts here, or no bytes where there is no whole record.
-fn message_from(room: &[u8], start: usize) -> &[u8] {
-    if room.len() < start {
-        return &room[0..0];
-    }
-    let end = records::end_of(room, start, HEAD);
-    if end == 0 {
-        return &room[0..0];
-    }
-    let from = start + HEAD;
-    &room[from..end]
-}
-
-pub fn message_at<'a>(room: &'a [u8], plan: &[usize], i: usize) -> &'a [u8] {
-    message_from(room, at(plan, i))
-}
-
-// Lists a message, if it is one of those asked for: in a block, or outside. Its block ends behind it, so far.
-fn with(listed: Listed, kind: u8, start: usize, inside: bool, plan: &mut [usize]) -> Listed {
-    let Listed {
-        messages,
-        blocks,
-        in_block,
-    } = listed;
-    let is_start = kind == b'S';
-    let is_inside = in_block || is_start;
-    let still = is_inside && kind != b'E';
-    if is_inside != inside {
-        return Listed {
-            messages,
-            blocks,
-            in_block: still,
-        };
-    }
-    let after = sum(messages, 1);
-    let begun = sum(blocks, is_start as usize);
-    put(plan, messages, start);
-    put(
-        plan,
-        sum(if inside { FIRSTS } else { FIRSTS + 1 }, begun),
-        after,
-    );
-    Listed {
-        messages: after,
-        blocks: begun,
-        in_block: still,
-    }
-}
-
-fn list_some(listed: Listed, room: &[u8], inside: bool, plan: &mut [usize]) -> Listed {
-    let mut all = listed;
-    let mut start: usize = 0;
-    while start < room.len() {
-        let end = records::end_of(room, start, HEAD);
-        if end == 0 {
-            break;
+impl<'a> Block<'a> {
+    // Gives the messages to sessions.
+    fn give(&mut self, sessions: &mut Sessions) {
+        for message in self.messages.iter_mut() {
+            let given = sessions.give(message.bytes, message.index);
+            message.present = Some(Note::of(sessions, given));
         }
-        let kind = byte_at(room, start + HEAD);
-        all = with(all, kind, start, inside, plan);
-        start = end;
     }
-    all
-}
 
-// The blocks in the order in which they were recorded.
-fn put_in_order(plan: &mut [usize]) {
-    let mut k: usize = 0;
-    while k < BLOCKS {
-        put(plan, ORDER + k, k);
-        k += 1;
+    fn record(&mut self) {
+        for message in self.messages.iter_mut() {
+            message.recorded = message.present;
+        }
     }
-}
 
-pub fn list(room: &[u8], plan: &mut [usize]) -> Listed {
-    let none = Listed {
-        messages: 0,
-        blocks: 0,
-        in_block: false,
-    };
-    let in_blocks = list_some(none, room, true, plan);
-    put_in_order(plan);
-    list_some(in_blocks, room, false, plan)
-}
+    // How many messages got something else than in the recorded order.
+    fn others(&self) -> usize {
+        self.messages
+            .iter()
+            .filter(|message| message.present != message.recorded)
+            .count()
+    }
 
-// Whether there was room for all.
-pub fn is_all(listed: Listed) -> bool {
-    listed.messages <= MESSAGES && listed.blocks < BLOCKS
-}
-
-// The blocks that are given as numbers `k` and one more change places.
-pub fn exchange(plan: &mut [usize], k: usize) {
-    let a = block_at(plan, k);
-    let b = block_at(plan, sum(k, 1));
-    put(plan, sum(ORDER, k), b);
-    put(plan, sum(ORDER + 1, k), a);
-}
-
-pub fn exchange_if(is_wanted: bool, plan: &mut [usize], k: usize) {
-    if is_wanted {
-        exchange(plan, k);
+    // Whether no message was refused in either order.
+    fn is_accepted(&self) -> bool {
+        self.messages.iter().all(|message| !is_refused(message.recorded)
+            && !is_refused(message.present))
     }
 }
 
-// Whether two blocks are of one transaction: the xid stands behind a Stream Start's letter.
-pub fn is_one_xid(room: &[u8], plan: &[usize], a: usize, b: usize) -> bool {
-    let x = message_at(room, plan, first_of(plan, a));
-    let y = message_at(room, plan, first_of(plan, b));
-    let high = (byte_at(x, 1) ^ byte_at(y, 1)) | (byte_at(x, 2) ^ byte_at(y, 2));
-    let low = (byte_at(x, 3) ^ byte_at(y, 3)) | (byte_at(x, 4) ^ byte_at(y, 4));
-    high | low == 0
+impl<'a> Plan<'a> {
+    fn is_inside(&mut self, message: &[u8]) -> bool {
+        let is_inside = self.in_block || message.starts_with(b"S");
+        self.in_block = stays_in_block(self.in_block, message);
+        is_inside
+    }
+
+    // Puts a message into the last block.
+    fn put(&mut self, bytes: &'a [u8]) -> Result<(), AllocError> {
+        let planned = Planned {
+            bytes,
+            index: self.messages as u64,
+            recorded: None,
+            present: None,
+        };
+        if let Some(block) = self.blocks.last_mut() {
+            block.messages.push(planned)?;
+            self.messages = self.messages.saturating_add(1);
+        }
+        Ok(())
+    }
+
+    fn begin(&mut self, alloc: Global, first: &[u8]) -> Result<(), AllocError> {
+        self.blocks.push(Block {
+            xid: xid_of(first),
+            messages: Vec::new(alloc),
+        })?;
+        Ok(())
+    }
+
+    // The blocks.
+    fn put_inside(&mut self, alloc: Global, messages: &[&'a [u8]]) -> Result<(), AllocError> {
+        for message in messages {
+            if self.is_inside(message) {
+                if message.starts_with(b"S") {
+                    self.begin(alloc, message)?;
+                }
+                self.put(message)?;
+            }
+        }
+        self.in_blocks = self.messages;
+        Ok(())
+    }
+
+    // Those outside of blocks. A block that is still open when the feeds end goes on at their start.
+    fn put_outside(&mut self, alloc: Global, messages: &[&'a [u8]]) -> Result<(), AllocError> {
+        let mut outside = Vec::new(alloc);
+        for message in messages {
+            if !self.is_inside(message) {
+                outside.push(*message)?;
+            }
+        }
+        let first = outside.first().or(messages.first());
+        self.begin(alloc, first.copied().unwrap_or(&[]))?;
+        for message in &outside {
+            self.put(message)?;
+        }
+        Ok(())
+    }
+
+    pub fn of(alloc: Global, trace: &'a [u8]) -> Result<Plan<'a>, AllocError> {
+        let Records { messages, .. } = Records::of(alloc, trace, FEED)?;
+        let mut plan = Plan {
+            blocks: Vec::new(alloc),
+            in_block: false,
+            messages: 0,
+            in_blocks: 0,
+        };
+        plan.put_inside(alloc, messages.as_slice())?;
+        plan.put_outside(alloc, messages.as_slice())?;
+        Ok(plan)
+    }
+
+    pub fn has_room(&self) -> bool {
+        self.messages <= MESSAGES && self.blocks.len() <= BLOCKS
+    }
+
+    // How many blocks were recorded.
+    pub fn blocks(&self) -> usize
+        ensures { result ≡ vec_len self.now.blocks - 1 }
+    {
+        self.blocks.len().saturating_sub(1)
+    }
+
+    // Gives all in the present order, to fresh sessions.
+    pub fn run(&mut self, sessions: &mut Sessions) {
+        sessions.start(VERSION);
+        for block in self.blocks.iter_mut() {
+            block.give(sessions);
+        }
+    }
+
+    // What the messages got is what they got in the recorded order.
+    pub fn record(&mut self) {
+        for block in self.blocks.iter_mut() {
+            block.record();
+        }
+    }
+
+    // The blocks at `k` and behind it change places.
+    pub fn exchange(&mut self, k: usize) {
+        if k < self.blocks() {
+            self.blocks.swap(k, k + 1);
+        }
+    }
+
+    // Where there are no two blocks, nothing changed places, which counts as one transaction.
+    pub fn turned(&self, k: usize) -> Turned {
+        match self.blocks.get(k..) {
+            Some([a, b, ..]) if a.xid != b.xid => {
+                if a.is_accepted() && b.is_accepted() {
+                    Turned::Stays
+                } else {
+                    Turned::Refused
+                }
+            }
+            _ => Turned::OneTransaction,
+        }
+    }
+
+    // How many messages got something else than in the recorded order.
+    pub fn others(&self) -> usize {
+        self.blocks.iter().fold(
+            0usize,
+            |others, block| others.saturating_add(block.others()),
+        )
+    }
 }

@@ -1,51 +1,49 @@
 // Records: the mark C3 4D, the rest of a head whose last four bytes are a length, and so many bytes of a message. A feed's head has the
 // mark and the length; a keeper's two xids between them.
-ghost use Rattle.std.specs.Prelude.{◌+◌, ◌<◌, ◌≤◌, length};
+ghost use Rattle.std.specs.Prelude.{◌<◌, length, IfSome};
 
-use crate::print;
+use std::alloc::{AllocError, Global};
 
-const KEPT: usize = 14;
+const MARK: [u8; 2] = [0xC3, 0x4D];
 
-fn wide(b: u8) -> usize {
-    b as usize
+// The sizes of a feed's head and of a keeper's.
+pub const FEED: usize = 6;
+
+pub const KEPT: usize = 14;
+
+// The messages of records that lie one after another, and whether nothing else is behind them.
+#[derive(Drop)]
+pub struct Records<'a> {
+    pub messages: Vec<&'a [u8]>,
+    pub is_all: bool,
 }
 
-// Where the record at `at` with a head of `head` bytes ends, or 0 where there is no whole record.
-pub fn end_of(bytes: &[u8], at: usize, head: usize) -> usize
-    requires { (at ≤ length bytes.now) × (6 ≤ head) }
-    ensures { 0 < result → (at + head ≤ result) × (result ≤ length bytes.now) }
+// The message of the first record, and what is behind it.
+fn split_first(bytes: &[u8], head: usize) -> Option<(&[u8], &[u8])>
+    requires { 0 < head }
+    ensures { IfSome result (λ r. length r.1.now < length bytes.now) }
 {
-    if bytes.len() - at < head {
-        return 0;
+    let (head, rest) = bytes.split_at_checked(head)?;
+    if !head.starts_with(&MARK) {
+        return None;
     }
-    if bytes[at] != 0xC3 {
-        return 0;
-    }
-    if bytes[at + 1] != 0x4D {
-        return 0;
-    }
-    let start = at + head;
-    let high = wide(bytes[start - 4]) % 256 * 16_777_216 + wide(bytes[start - 3]) % 256 * 65_536;
-    let size = high + wide(bytes[start - 2]) % 256 * 256 + wide(bytes[start - 1]) % 256;
-    if size <= bytes.len() - start {
-        start + size
-    } else {
-        0
-    }
+    let size = u32::from_be_bytes(*head.last_chunk()?);
+    rest.split_at_checked(size as usize)
 }
 
-// How many records a keeper released.
-pub fn count(rt: &impl Print, released: &[u8]) -> u64 {
-    let mut n: u64 = 0;
-    let mut at: usize = 0;
-    while at < released.len() {
-        let end = end_of(released, at, KEPT);
-        if end == 0 {
-            print(rt, b"not a record\n");
-            return n;
+impl<'a> Records<'a> {
+    pub fn of(alloc: Global, bytes: &'a [u8], head: usize) -> Result<Self, AllocError>
+        requires { 0 < head }
+    {
+        let mut messages = Vec::new(alloc);
+        let mut rest = bytes;
+        while let Some((message, behind)) = split_first(rest, head) {
+            messages.push(message)?;
+            rest = behind;
         }
-        n += 1;
-        at = end;
+        Ok(Records {
+            messages,
+            is_all: rest.is_empty(),
+        })
     }
-    n
 }

@@ -1,220 +1,148 @@
-// What is counted and summed of the binary values of a feed.
-use crate::{print, print_number};
+// The binary values of a feed, and what they sum to.
+use std::alloc::{AllocError, Global};
 use values::{Bits, Value};
 
-// Floats of one format: how many there are, NaNs, infinities, subnormals, those below 0, and all patterns, exclusive-or.
+// A float with the pattern that it is written as.
 #[derive(Clone, Copy)]
-struct Floats {
-    count: u64,
-    nans: u64,
-    infinities: u64,
-    subnormals: u64,
-    negatives: u64,
+struct Float {
     bits: u64,
+    value: f64,
+    is_subnormal: bool,
 }
 
-// Whole numbers: how many there are, and their sum in 64 bits.
-#[derive(Clone, Copy)]
-struct Integers {
-    count: u64,
-    sum: u64,
-}
-
-#[derive(Clone, Copy)]
+// Whole numbers, floats of one format, times and how many bytes values of other types have; and how many values were refused, or written
+// as something else.
+#[derive(Drop)]
 pub struct Sums {
-    bools: Integers,
-    int2s: Integers,
-    int4s: Integers,
-    int8s: Integers,
-    float4s: Floats,
-    float8s: Floats,
-    times: Integers,
-    least: i64,
-    greatest: i64,
-    raws: Integers,
-    wrong: u64,
+    bools: Vec<i64>,
+    int2s: Vec<i64>,
+    int4s: Vec<i64>,
+    int8s: Vec<i64>,
+    float4s: Vec<Float>,
+    float8s: Vec<Float>,
+    times: Vec<i64>,
+    raws: Vec<i64>,
+    wrong: usize,
 }
 
-const LEAST4: f64 = 1.1754943508222875e-38;
-
-const LEAST8: f64 = 2.2250738585072014e-308;
-
-fn plus(a: u64, b: u64) -> u64 {
-    std::num::wrapping_add_u64(a, b)
-}
-
-impl Integers {
-    fn with(self, bits: u64) -> Self {
-        Integers {
-            count: plus(self.count, 1),
-            sum: plus(self.sum, bits),
-        }
-    }
-}
-
-impl Floats {
-    // With a float more, of which this is the pattern. From `least` on a float is not subnormal.
-    fn with(self, pattern: u64, x: f64, least: f64) -> Self {
-        let is_nan = x != x;
-        let is_infinite = !is_nan && x - x != 0.0;
-        let is_subnormal = -least < x && x < least && x != 0.0;
-        Floats {
-            count: plus(self.count, 1),
-            nans: plus(self.nans, is_nan as u64),
-            infinities: plus(self.infinities, is_infinite as u64),
-            subnormals: plus(self.subnormals, is_subnormal as u64),
-            negatives: plus(self.negatives, (x < 0.0) as u64),
-            bits: self.bits ^ pattern,
-        }
-    }
-}
-
-fn no_floats() -> Floats {
-    Floats {
-        count: 0,
-        nans: 0,
-        infinities: 0,
-        subnormals: 0,
-        negatives: 0,
-        bits: 0,
-    }
-}
-
-pub fn none() -> Sums {
-    let zero = Integers { count: 0, sum: 0 };
-    let floats = no_floats();
-    Sums {
-        bools: zero,
-        int2s: zero,
-        int4s: zero,
-        int8s: zero,
-        float4s: floats,
-        float8s: floats,
-        times: zero,
-        least: 0x7FFF_FFFF_FFFF_FFFF,
-        greatest: wire::signed64(0x8000_0000_0000_0000),
-        raws: zero,
-        wrong: 0,
+// The pattern that a number is written as.
+fn bits_of(value: Value) -> u64 {
+    match values::bits_of(value) {
+        Bits::Number { number, .. } => number,
+        Bits::Part { .. } => 0,
     }
 }
 
 // A NaN, as an operation makes it.
-fn nan() -> f64 {
-    0.0 / 0.0
-}
-
-// The pattern that a value is written as; of a part of a source, how many bytes it has.
-fn pattern(value: Value) -> u64 {
-    match values::bits_of(value) {
-        Bits::Number { number, .. } => number,
-        Bits::Part { length, .. } => length as u64,
+fn nan(bits: u64) -> Float {
+    Float {
+        bits,
+        value: 0.0 / 0.0,
+        is_subnormal: false,
     }
 }
 
-fn with_time(sums: Sums, time: i64) -> Sums {
-    let mut after = sums;
-    after.times = sums.times.with(wire::bits64(time));
-    if time < sums.least {
-        after.least = time;
-    }
-    if sums.greatest < time {
-        after.greatest = time;
-    }
-    after
+// The sum in 64 bits.
+fn sum(numbers: &[i64]) -> i64 {
+    numbers.iter().fold(0i64, |sum, n| sum.wrapping_add(*n))
 }
 
-// With a value more.
-pub fn with(sums: Sums, value: Value) -> Sums {
-    let n = pattern(value);
-    let mut after = sums;
-    match value {
-        Value::Bool(_) => after.bools = sums.bools.with(n),
-        Value::Int2(v) => after.int2s = sums.int2s.with(wire::bits64(wire::wide16(v))),
-        Value::Int4(v) => after.int4s = sums.int4s.with(wire::bits64(wire::wide32(v))),
-        Value::Int8(v) => after.int8s = sums.int8s.with(wire::bits64(v)),
-        Value::Float4(x) => {
-            after.float4s = sums
-                .float4s
-                .with(n, std::num::f32_to_f64_with_nan(x), LEAST4)
+fn print_sum(rt: &impl Print, numbers: &[i64], what: &str) {
+    let _ = println!(rt; "{} {what} {}", numbers.len(), sum(numbers));
+}
+
+fn print_floats(rt: &impl Print, floats: &[Float], name: &str) {
+    let nans = floats.iter().filter(|x| x.value.is_nan()).count();
+    let infinite = floats.iter().filter(|x| x.value.is_infinite()).count();
+    let subnormal = floats.iter().filter(|x| x.is_subnormal).count();
+    let negative = floats.iter().filter(|x| x.value < 0.0).count();
+    let bits = floats.iter().fold(0u64, |bits, x| bits ^ x.bits);
+    let _ = println!(rt;
+        "{} {name}: {nans} NaN, {infinite} infinite, {subnormal} subnormal, {negative} below 0, all bits xor {bits}",
+        floats.len()
+    );
+}
+
+impl Sums {
+    pub fn new(alloc: Global) -> Sums {
+        Sums {
+            bools: Vec::new(alloc),
+            int2s: Vec::new(alloc),
+            int4s: Vec::new(alloc),
+            int8s: Vec::new(alloc),
+            float4s: Vec::new(alloc),
+            float8s: Vec::new(alloc),
+            times: Vec::new(alloc),
+            raws: Vec::new(alloc),
+            wrong: 0,
         }
-        Value::Float4Nan(_) => after.float4s = sums.float4s.with(n, nan(), LEAST4),
-        Value::Float8(x) => after.float8s = sums.float8s.with(n, x, LEAST8),
-        Value::Float8Nan(_) => after.float8s = sums.float8s.with(n, nan(), LEAST8),
-        Value::TimestampTz(v) => return with_time(sums, v),
-        Value::Raw { .. } => after.raws = sums.raws.with(n),
     }
-    after
-}
 
-// With a value more that was refused, or written as something else.
-pub fn with_wrong(sums: Sums) -> Sums {
-    let mut after = sums;
-    after.wrong = plus(sums.wrong, 1);
-    after
-}
-
-fn print_signed(rt: &impl Print, bits: u64) {
-    if bits >> 63 == 1 {
-        print(rt, b"-");
-        print_number(rt, std::num::wrapping_sub_u64(0, bits));
-    } else {
-        print_number(rt, bits);
+    pub fn add(&mut self, value: Value) -> Result<(), AllocError> {
+        match value {
+            Value::Bool(v) => self.bools.push(i64::from(v))?,
+            Value::Int2(v) => self.int2s.push(i64::from(v))?,
+            Value::Int4(v) => self.int4s.push(i64::from(v))?,
+            Value::Int8(v) => self.int8s.push(v)?,
+            Value::Float4(x) => self.float4s.push(Float {
+                bits: bits_of(value),
+                value: std::num::f32_to_f64_with_nan(x),
+                is_subnormal: x.is_subnormal(),
+            })?,
+            Value::Float4Nan(bits) => self.float4s.push(nan(u64::from(bits)))?,
+            Value::Float8(x) => self.float8s.push(Float {
+                bits: bits_of(value),
+                value: x,
+                is_subnormal: x.is_subnormal(),
+            })?,
+            Value::Float8Nan(bits) => self.float8s.push(nan(bits))?,
+            Value::TimestampTz(v) => self.times.push(v)?,
+            Value::Raw { length, .. } => self.raws.push(length.cast_signed() as i64)?,
+        }
+        Ok(())
     }
-}
 
-fn print_sum(rt: &impl Print, integers: Integers, name: &[u8]) {
-    print_number(rt, integers.count);
-    print(rt, name);
-    print_signed(rt, integers.sum);
-    print(rt, b"\n");
-}
-
-fn print_floats(rt: &impl Print, floats: Floats, name: &[u8]) {
-    print_number(rt, floats.count);
-    print(rt, name);
-    print_number(rt, floats.nans);
-    print(rt, b" NaN, ");
-    print_number(rt, floats.infinities);
-    print(rt, b" infinite, ");
-    print_number(rt, floats.subnormals);
-    print(rt, b" subnormal, ");
-    print_number(rt, floats.negatives);
-    print(rt, b" below 0, all bits xor ");
-    print_number(rt, floats.bits);
-    print(rt, b"\n");
-}
-
-fn count(sums: Sums) -> u64 {
-    let small = plus(plus(sums.bools.count, sums.int2s.count), sums.int4s.count);
-    let large = plus(plus(sums.int8s.count, sums.times.count), sums.raws.count);
-    plus(
-        plus(small, large),
-        plus(sums.float4s.count, sums.float8s.count),
-    )
-}
-
-// Prints the sums of a feed that has any binary value.
-pub fn print_sums(rt: &impl Print, sums: Sums) {
-    if sums.wrong != 0 {
-        print_number(rt, sums.wrong);
-        print(rt, b" values were refused, or written as something else\n");
+    // A value that was refused, or written as something else.
+    pub fn add_wrong(&mut self) {
+        self.wrong = self.wrong.saturating_add(1);
     }
-    if count(sums) == 0 {
-        return;
+
+    fn count(&self) -> usize {
+        let floats = self.float4s.len().saturating_add(self.float8s.len());
+        [
+            &self.bools,
+            &self.int2s,
+            &self.int4s,
+            &self.int8s,
+            &self.times,
+            &self.raws,
+        ]
+        .iter()
+        .fold(floats, |count, numbers| count.saturating_add(numbers.len()))
     }
-    print_number(rt, count(sums));
-    print(rt, b" binary values read and written back\n");
-    print_sum(rt, sums.bools, b" bool, true: ");
-    print_sum(rt, sums.int2s, b" int2, sum ");
-    print_sum(rt, sums.int4s, b" int4, sum ");
-    print_sum(rt, sums.int8s, b" int8, sum ");
-    print_floats(rt, sums.float4s, b" float4: ");
-    print_floats(rt, sums.float8s, b" float8: ");
-    print_sum(rt, sums.times, b" timestamptz, sum ");
-    print(rt, b"times from ");
-    print_signed(rt, wire::bits64(sums.least));
-    print(rt, b" to ");
-    print_signed(rt, wire::bits64(sums.greatest));
-    print(rt, b"\n");
-    print_sum(rt, sums.raws, b" of other types, bytes ");
+
+    // Prints the sums of a feed that has any binary value.
+    pub fn print(&self, rt: &impl Print) {
+        if self.wrong != 0 {
+            let _ = println!(rt;
+                "{} values were refused, or written as something else",
+                self.wrong
+            );
+        }
+        if self.count() == 0 {
+            return;
+        }
+        let _ = println!(rt; "{} binary values read and written back", self.count());
+        print_sum(rt, self.bools.as_slice(), "bool, true:");
+        print_sum(rt, self.int2s.as_slice(), "int2, sum");
+        print_sum(rt, self.int4s.as_slice(), "int4, sum");
+        print_sum(rt, self.int8s.as_slice(), "int8, sum");
+        print_floats(rt, self.float4s.as_slice(), "float4");
+        print_floats(rt, self.float8s.as_slice(), "float8");
+        print_sum(rt, self.times.as_slice(), "timestamptz, sum");
+        let least = self.times.iter().copied().min().unwrap_or(i64::MAX);
+        let greatest = self.times.iter().copied().max().unwrap_or(i64::MIN);
+        let _ = println!(rt; "times from {least} to {greatest}");
+        print_sum(rt, self.raws.as_slice(), "of other types, bytes");
+    }
 }

@@ -1,19 +1,19 @@
 -- A session's record and a keeper's buffer agree with history: the buffer begins with the records that history keeps. Assumes nothing.
 use Prim.Native.Nat.{ℕ, ◌+◌, ◌≤◌}
 use mathlib.Core.List.{List, [], ◌∷◌, ◌++◌, append_assoc, append-nil}
-use mathlib.Core.Bool.{Bool, true, false, cond, not, ◌||◌, ◌&&◌, false≢true}
+use mathlib.Core.Bool.{Bool, true, false, cond, not, ◌&&◌, false≢true}
 use mathlib.Core.Path.{◌≡◌, refl, sym, ◌∙◌, ap, ap₂, subst}
 use native.Mathlib.Omega.{arith}
 use borrow.Author.Tests.{leb-true}
 use lib.Dec.{eqb, leb}
 use lib.ListN.{length, take, drop, get_or, length-append}
 use lib.Seq.{sets, sets-eq, take-append_seam, drop-append_seam}
+use Rattle.std.specs.Prelude.{Some, None, Ok, Err}
 use Rattle.wire.specs.Lists.{keep}
 use Rattle.catalog.specs.Table.{Small}
 use Rattle.session.specs.declared.Place.{Place}
 use Rattle.session.specs.declared.Place.TheVariants.{Idle, Transaction, Block}
-use Rattle.session.specs.declared.Answer.{Answer}
-use Rattle.session.specs.declared.Answer.TheVariants as answer
+use Rattle.session.specs.Answers.{Answer}
 use Rattle.session.specs.declared.Session.{Session}
 use Rattle.session.specs.Events.{Event, Begin, Commit, Origin, Relation, Change, Truncate, Neutral, Logical, StreamStart, StreamStop, StreamCommit, StreamAbort}
 use Rattle.session.specs.History.{given, entry, History, place}
@@ -24,7 +24,7 @@ use Rattle.session.proofs.Runs as session
 use Rattle.session.proofs.Runs.{says, version_for, Well, Fits, place-fits, heard_follows}
 use Rattle.keeper.specs.declared.Header.{Header}
 use Rattle.keeper.specs.Rules.{Kept, kept, is_of, is_under, Doing, nothing, keeps, frees, drops, doing, joined, is_dropped, kept_after, kept_in, released_by, record_of, records_of, laid, Space, rule_room, rule_keeper, ruled, space_of, judge_kept}
-use Rattle.keeper.specs.Records.{header, pieces_in, chosen, Hold, hold}
+use Rattle.keeper.specs.Records.{header, xids_of, is_named, pieces_in, chosen, Hold, hold}
 use Rattle.keeper.specs.Machine.{appended, hold_after, released_from, space_in}
 use Rattle.keeper.proofs.Pieces.{AllSound, sound_keep, sound_join, length_record, length_records, pieces_of}
 
@@ -79,9 +79,8 @@ records_join (j ∷ ks) k = ap (λ (t : List ℕ). record_of j ++ t) (records_jo
 
 -- a message that both accept
 pub both_accept : (a k : Answer) → accepts (cond (accepts a) k a) ≡ true → (accepts a ≡ true) × (accepts k ≡ true)
-both_accept answer.Accepted k ok = (refl, ok)
-both_accept (answer.Change g i c) k ok = (refl, ok)
-both_accept (answer.Refused n o) k ok = absurd (false≢true ok)
+both_accept (Ok seen) k ok = (refl, ok)
+both_accept (Err r) k ok = absurd (false≢true ok)
 
 module _ (s : Session) (b : Hold) (h : History) (a : Agrees s b h) where
   abbrev holding : List Kept → Hold
@@ -94,7 +93,7 @@ module _ (s : Session) (b : Hold) (h : History) (a : Agrees s b h) where
   as_it_was : b ≡ holding (kept_in h)
   as_it_was = ap₂ hold (sym a.lies) a.held
 
-  module _ (q : Header → Bool) (p : Kept → Bool) (same : (top own : ℕ) (xs : List ℕ) → q (header (14 + length xs) true top own) ≡ p (kept top own xs)) where
+  module _ (q : Header → Bool) (p : Kept → Bool) (same : (top own : ℕ) (xs : List ℕ) → q (header (14 + length xs) (xids_of top own)) ≡ p (kept top own xs)) where
     pieces_there : pieces_in q (take b.held b.buffer) ≡ records_of (keep p (kept_in h))
     pieces_there = ap (pieces_in q) held-part ∙ pieces_of q p same (kept_in h) a.sound
 
@@ -129,18 +128,18 @@ module _ (s : Session) (b : Hold) (h : History) (a : Agrees s b h) where
       → hold_after d p xs b ≡ holding (kept_after d p xs (kept_in h))
   hold-after n nothing p xs y ok = as_it_was
   hold-after n (keeps own) p xs y ok = room_said n p own xs y ok
-  hold-after n (frees x) p xs y ok = packing (λ r. not (chosen true x x r)) (λ k. not (is_of x k)) (λ top own ys. refl)
+  hold-after n (frees x) p xs y ok = packing (λ r. not (chosen x None r)) (λ k. not (is_of x k)) (λ top own ys. refl)
   hold-after n (drops x sub) p xs y ok =
-      packing (λ r. not (chosen (eqb x sub) x sub r)) (λ k. not (is_dropped x sub k)) (λ top own ys. ap not (go (eqb x sub) top own ys))
+      packing (λ r. not (chosen x (cond (eqb x sub) None (Some sub)) r)) (λ k. not (is_dropped x sub k)) (λ top own ys. ap not (go (eqb x sub) top own ys))
     where
-      go : (v : Bool) (top own : ℕ) (ys : List ℕ) → (v || eqb own sub) && eqb top x ≡ cond v (is_of x (kept top own ys)) (is_under x sub (kept top own ys))
+      go : (v : Bool) (top own : ℕ) (ys : List ℕ) → is_named (cond v None (Some sub)) own && eqb top x ≡ cond v (is_of x (kept top own ys)) (is_under x sub (kept top own ys))
       go true top own ys = refl
       go false top own ys = refl
 
   pub same-released : (d : Doing) → released_from d b ≡ records_of (released_by d (kept_in h))
   same-released nothing = refl
   same-released (keeps own) = refl
-  same-released (frees x) = pieces_there (chosen true x x) (is_of x) (λ top own ys. refl)
+  same-released (frees x) = pieces_there (chosen x None) (is_of x) (λ top own ys. refl)
   same-released (drops x sub) = refl
 
   same_space : (n : ℕ) (d : Doing) → space_in b n d ≡ space_of (length b.buffer) n d (kept_in h)

@@ -11,7 +11,7 @@ use Rattle.message.specs.Kinds.{kind_among}
 use Rattle.message.specs.Versions.{version_allows, version_has}
 use Rattle.message.specs.Messages.{read_kind, read_message}
 use Rattle.message.specs.Encode.{digits}
-use Rattle.session.specs.declared.Answer.TheVariants as said
+use Rattle.session.specs.Answers as said
 use Rattle.session.specs.History.{given}
 use Rattle.keeper.specs.Rules.{Call, call, record_of, outcomes}
 use Rattle.keeper.proofs.Runs.{gets}

@@ -14,9 +14,10 @@ use Rattle.message.specs.Encode.{digits}
 use Rattle.message.proofs.Judged.{length_digits}
 use Rattle.message.proofs.From.{From, from_first, from_next, number-from}
 use Rattle.catalog.specs.Table.{Small}
+use Rattle.std.specs.Prelude.{None}
 use Rattle.keeper.specs.declared.Header.{Header}
 use Rattle.keeper.specs.Rules.{Kept, kept, record_of, records_of, sizes}
-use Rattle.keeper.specs.Records.{header, word, mark_of, header_of, passed, picked, pieces_in}
+use Rattle.keeper.specs.Records.{header, xids_of, word, mark_of, header_of, passed, picked, pieces_in}
 
 -- WHAT IS KEPT FITS ITS FIELDS
 
@@ -48,13 +49,13 @@ sound_join (j ∷ ks) k a s = (a.0, sound_join ks k a.1 s)
 
 module _ (xs : List ℕ) where
   header_cases :
-      (P : Header → Type 0) → (14 + word xs 10 ≤ length xs → P (header (14 + word xs 10) true (word xs 2) (word xs 6)))
-      → P (header (length xs) false 0 0) → P (header_of xs)
+      (P : Header → Type 0) → (14 + word xs 10 ≤ length xs → P (header (14 + word xs 10) (xids_of (word xs 2) (word xs 6))))
+      → P (header (length xs) None) → P (header_of xs)
   unfolding header_of
   header_cases P a b = go (leb 14 (length xs)) (eqb (mark_of xs) 0xC34D) (leb (14 + word xs 10) (length xs)) refl
     where
       go : (u v w : Bool) → leb (14 + word xs 10) (length xs) ≡ w
-          → P (cond (u && (v && w)) (header (14 + word xs 10) true (word xs 2) (word xs 6)) (header (length xs) false 0 0))
+          → P (cond (u && (v && w)) (header (14 + word xs 10) (xids_of (word xs 2) (word xs 6))) (header (length xs) None))
       go true true true e = a (leb-true (14 + word xs 10) (length xs) e)
       go true true false e = b
       go true false w e = b
@@ -163,7 +164,7 @@ module _ (top own : ℕ) (xs post : List ℕ) (f : Fitting top own xs) where
   unfolding n_part
   n_is = word-from whole 10 (length xs) (xs ++ post) (from_first (digits 4 (length xs)) xs post after-own) f.length-fits
 
-  header_record : header_of whole ≡ header (14 + length xs) true top own
+  header_record : header_of whole ≡ header (14 + length xs) (xids_of top own)
   unfolding header_of
   header_record =
       let l : 14 + length xs ≤ length whole = omega (arith, length-append (record_of (kept top own xs)) post, length_record top own xs) in
@@ -173,7 +174,7 @@ module _ (top own : ℕ) (xs post : List ℕ) (f : Fitting top own xs) where
 module _
     (q : Header → Bool)
     (p : Kept → Bool)
-    (same : (top own : ℕ) (xs : List ℕ) → q (header (14 + length xs) true top own) ≡ p (kept top own xs)) where
+    (same : (top own : ℕ) (xs : List ℕ) → q (header (14 + length xs) (xids_of top own)) ≡ p (kept top own xs)) where
   pub pieces_of : (ks : List Kept) → AllSound ks → pieces_in q (records_of ks) ≡ records_of (keep p ks)
   pieces_of [] a = pieces_none q [] refl
   pieces_of (kept top own xs ∷ ks) a =
@@ -181,7 +182,7 @@ module _
       ∙ rw (e, take_at (record_of (kept top own xs)) (records_of ks) (14 + length xs) l, drop_at (record_of (kept top own xs)) (records_of ks) (14 + length xs) l, same top own xs)
       (go (p (kept top own xs)) (pieces_of ks a.1))
     where
-      e : header_of (record_of (kept top own xs) ++ records_of ks) ≡ header (14 + length xs) true top own
+      e : header_of (record_of (kept top own xs) ++ records_of ks) ≡ header (14 + length xs) (xids_of top own)
       e = header_record top own xs (records_of ks) a.0
 
       l : length (record_of (kept top own xs)) ≡ 14 + length xs

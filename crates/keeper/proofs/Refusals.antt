@@ -4,9 +4,9 @@ use mathlib.Core.Path.{◌≡◌, refl}
 use mathlib.Core.List.{List}
 use mathlib.Core.Bool.{false, true≢false}
 use lib.ListN.{length}
+use Rattle.std.specs.Prelude.{Ok, Err}
 use Rattle.session.specs.declared.Place.{Place}
-use Rattle.session.specs.declared.Answer.{Answer}
-use Rattle.session.specs.declared.Answer.TheVariants as answer
+use Rattle.session.specs.Answers.{Answer}
 use Rattle.session.specs.declared.Session.{Session}
 use Rattle.session.specs.Events.{Event}
 use Rattle.session.specs.Rules.{accepts, Heard, unread, heard, hears}
@@ -26,9 +26,8 @@ refused-keeps s b out xs g = go (hears (version_in (head_in s.head)) (place_in (
     Same t = (t.session ≡ s) × (t.outcome ≡ record { answer = t.outcome.answer; released = 0; output = out; buffer = b.buffer; held = b.held })
 
     left : (m : Event) (p : Place) (a : Answer) → accepts (settled s b out m xs g p a).outcome.answer ≡ false → Same (settled s b out m xs g p a)
-    left m p answer.Accepted e = absurd (true≢false e)
-    left m p (answer.Change t i c) e = absurd (true≢false e)
-    left m p (answer.Refused n o) e = (refl, refl)
+    left m p (Ok seen) e = absurd (true≢false e)
+    left m p (Err r) e = (refl, refl)
 
     go : (r : Heard) → accepts (heard_after s b out r xs g).outcome.answer ≡ false → Same (heard_after s b out r xs g)
     go (unread n o) e = (refl, refl)

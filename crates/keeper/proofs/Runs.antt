@@ -6,8 +6,8 @@ use mathlib.Core.Bool.{Bool, true, false, cond}
 use lib.ListN.{length}
 use Rattle.message.specs.declared.Version.{Version}
 use Rattle.session.specs.declared.Place.{Place}
-use Rattle.session.specs.declared.Answer.{Answer}
-use Rattle.session.specs.declared.Answer.TheVariants as answer
+use Rattle.session.specs.Answers.{Answer}
+use Rattle.session.specs.Answers as answer
 use Rattle.session.specs.declared.Session.{Session}
 use Rattle.session.specs.Events.{Event}
 use Rattle.session.specs.History.{given, entry, History, place}

@@ -12,8 +12,8 @@ use Rattle.message.specs.Kinds.{kind_among}
 use Rattle.message.specs.Versions.{version_allows, version_has}
 use Rattle.message.specs.Messages.{read_kind, read_message}
 use Rattle.message.specs.Encode.{digits}
-use Rattle.session.specs.declared.Answer.{Answer}
-use Rattle.session.specs.declared.Answer.TheVariants as said
+use Rattle.std.specs.Prelude.{Some, None, Ok, Err}
+use Rattle.session.specs.Answers.{Answer}
 use Rattle.session.specs.Events.{Relation, Change, StreamStop, Tuple}
 use Rattle.session.specs.History.{given}
 use Rattle.session.specs.Rules as session
@@ -99,9 +99,9 @@ without-room e = let z : ◌≡◌ {A = ℕ} 27 0 = sym releases ∙ ap released
 -- ONE XID: two blocks of 7, all accepted in both orders, that announce the same relation; the I behind them sees the announcement that came second
 
 abbrev tagged : Answer → ℕ
-tagged said.Accepted = 0
-tagged (said.Change g i c) = g
-tagged (said.Refused n o) = 0
+tagged (Ok None) = 0
+tagged (Ok (Some r)) = r.tag
+tagged (Err r) = 0
 
 abbrev tags : List Got → ℕ
 tags [] = 0

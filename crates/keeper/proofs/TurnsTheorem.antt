@@ -6,7 +6,7 @@ use mathlib.Core.List.{List, [], ◌∷◌, ◌++◌, map}
 use mathlib.Core.Bool.{Bool, true, false, cond, ◌&&◌}
 use lib.ListN.{length}
 use Rattle.message.specs.declared.Version.{Version}
-use Rattle.session.specs.declared.Answer.{Answer}
+use Rattle.session.specs.Answers.{Answer}
 use Rattle.session.specs.Events.{Event}
 use Rattle.session.specs.History.{Given, given, entry, History, place}
 use Rattle.session.specs.Rules.{rooms, judge, accepts, Heard, unread, heard, hears, version_of}

@@ -1,11 +1,11 @@
 -- For contracts only. What a keeper makes of its buffer, on any bytes, and what one step of a session with a keeper makes of both.
 -- Nobody has to believe this file: the list theorem shows that it does what the rules over history say.
-use Rattle.std.specs.Prelude.{ℕ, ◌+◌, List, [], true, cond, eqb, length}
+use Rattle.std.specs.Prelude.{ℕ, ◌+◌, List, [], cond, eqb, length, Some, None}
 use Rattle.std.proofs.lemmas.List.Edits.{sets}
 use Rattle.session.specs.declared.Place.{Place}
 use Rattle.session.specs.declared.Place.TheVariants.{Idle, Transaction, Block}
-use Rattle.session.specs.declared.Answer.{Answer}
-use Rattle.session.specs.declared.Answer.TheVariants as answer
+use Rattle.session.specs.Answers.{Answer}
+use Rattle.session.specs.Answers as answer
 use Rattle.session.specs.declared.Session.{Session}
 use Rattle.session.specs.Events.{Event}
 use Rattle.session.specs.Rules.{accepts, Heard, unread, heard, hears}
@@ -34,14 +34,14 @@ appended (Block x) own xs b = hold (sets b.buffer b.held (record_of (kept x own 
 abbrev pub hold_after : Doing → Place → List ℕ → Hold → Hold
 hold_after nothing p xs b = b
 hold_after (keeps own) p xs b = appended p own xs b
-hold_after (frees x) p xs b = removed true x x b
-hold_after (drops x sub) p xs b = removed (eqb x sub) x sub b
+hold_after (frees x) p xs b = removed x None b
+hold_after (drops x sub) p xs b = removed x (cond (eqb x sub) None (Some sub)) b
 
 -- the records that a message releases
 abbrev pub released_from : Doing → Hold → List ℕ
 released_from nothing b = []
 released_from (keeps own) b = []
-released_from (frees x) b = taken true x x b
+released_from (frees x) b = taken x None b
 released_from (drops x sub) b = []
 
 abbrev pub space_in : Hold → ℕ → Doing → Space
@@ -50,10 +50,6 @@ space_in b n d = record { room = length b.buffer; held = b.held; output = n; rel
 -- A REPLY: an answer, and how many bytes are released
 abbrev pub reply : Answer → ℕ → Reply
 reply a released = record { answer = a; released = released }
-
--- only an accepted message releases
-abbrev pub replied : Answer → ℕ → Reply
-replied a released = reply a (cond (accepts a) released 0)
 
 -- A STEP: the session after it, and what the message got and left
 pub record After : Type 0 where

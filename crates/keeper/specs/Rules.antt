@@ -5,8 +5,8 @@ use Rattle.message.specs.declared.Version.{Version}
 use Rattle.message.specs.Encode.{digits}
 use Rattle.session.specs.declared.Place.{Place}
 use Rattle.session.specs.declared.Place.TheVariants.{Idle, Transaction, Block}
-use Rattle.session.specs.declared.Answer.{Answer}
-use Rattle.session.specs.declared.Answer.TheVariants as answer
+use Rattle.session.specs.Answers.{Answer}
+use Rattle.session.specs.Answers as answer
 use Rattle.session.specs.Events.{Event, Begin, Commit, Origin, Relation, Change, Truncate, Neutral, Logical, StreamStart, StreamStop, StreamCommit, StreamAbort}
 use Rattle.session.specs.History.{History, Given, given, entry, place}
 use Rattle.session.specs.Rules.{rooms, test, judge, accepts, Heard, unread, heard, hears}

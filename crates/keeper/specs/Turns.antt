@@ -1,6 +1,6 @@
 -- To be believed (the order of turns). TURNS WITH A KEEPER (request 105): two neighbouring blocks of different streamed transactions may change places.
 use Rattle.std.specs.Prelude.{ℕ, ◌≡◌, List, ◌++◌, map, true, length}
-use Rattle.session.specs.declared.Answer.{Answer}
+use Rattle.session.specs.Answers.{Answer}
 use Rattle.session.specs.History.{Given}
 use Rattle.session.specs.Rules.{Start, version_of}
 use Rattle.session.specs.Machine.{start_of}

@@ -1,13 +1,13 @@
 #![tactic(auto)]
 // Streamed changes are held in a lent buffer until they commit: the step of a session with a keeper.
-ghost use Rattle.std.specs.Prelude.{◌≡◌, List, ℕ, ◌%◌};
+ghost use Rattle.std.specs.Prelude.{◌≡◌, List, ℕ, Err};
 ghost use Rattle.session.specs.Events.{Change};
-ghost use Rattle.session.specs.Machine.{session_of};
 ghost use Rattle.session.specs.Acts.{tuples_of, event_in};
 ghost use Rattle.keeper.specs.Records.{hold};
 ghost use Rattle.keeper.specs.Machine.{after, reply, event_after, step_of};
 
 use session::{Act, Answer, Looked, Session, Tuples, stages};
+use wire::Refusal;
 
 mod holding;
 mod records;
@@ -19,6 +19,18 @@ pub struct Reply {
     pub released: usize,
 }
 
+impl Reply {
+    // What a refused message gets: it releases nothing.
+    fn refused(refusal: Refusal) -> Reply
+        ensures { result ≡ reply (Err refusal) 0 }
+    {
+        Reply {
+            answer: Err(refusal),
+            released: 0,
+        }
+    }
+}
+
 // A session after a message, what the message got, and how many bytes are held then.
 #[derive(Clone, Copy)]
 pub struct KeeperStep {
@@ -27,11 +39,16 @@ pub struct KeeperStep {
     pub held: usize,
 }
 
-// A piece of held bytes: its size, whether it is a record, and a record's two xids.
+// A piece of held bytes: its size, and a record's two xids; what is no record has none.
 #[derive(Clone, Copy)]
 struct Header {
     size: usize,
-    whole: bool,
+    xids: Option<Xids>,
+}
+
+// The xid of the block that a record's change came in, and the one that the change carries.
+#[derive(Clone, Copy)]
+struct Xids {
     top: u32,
     own: u32,
 }
@@ -46,47 +63,34 @@ enum Deed {
     Drops { xid: u32, sub: u32 },
 }
 
-// Gives a session with a keeper a change.
-fn step_change<'a>(
-    head: &'a mut [u64; 6],
-    xids: &'a [u32; 16],
-    marks: &'a mut [u8; 16],
-    keys: &'a [u64; 256],
-    tags: &'a [u64; 256],
-    ids: &'a [u8; 256],
-    cols: &'a [u16; 256],
+// Gives a session with a keeper a change. The session's answer goes on whole: taken apart by `?` and put together again, a change of a
+// block takes a fifth longer.
+fn step_change(
+    session: &mut Session,
     oid: u32,
     own: u64,
     t: Tuples,
     bytes: &[u8],
     buffer: &mut [u8],
     held: &mut usize,
-) -> Reply
-    ensures { (tag : ℕ) (out : List ℕ) → after (session_of head.new xids.now marks.new keys.now tags.now ids.now cols.now) result out (hold buffer.new held.new) ≡ event_after (session_of head.old xids.now marks.old keys.now tags.now ids.now cols.now) (hold buffer.old held.old) out (Change own oid (tuples_of t)) bytes.now tag }
+) -> Answer
+    ensures { (tag : ℕ) (out : List ℕ) → after session.new (reply result 0) out (hold buffer.new held.new) ≡ event_after session.old (hold buffer.old held.old) out (Change own oid (tuples_of t)) bytes.now tag }
 {
     let at = *held;
-    let place = stages::place_in(head);
-    let answer = stages::judge_change(head, keys, tags, ids, cols, oid, t);
-    let said = holding::judge_change(place, buffer.len(), at, bytes.len(), answer);
-    if session::accepted(said) {
-        stages::apply_change(head, xids, marks);
-        *held = holding::join(buffer, at, place, own, bytes);
+    let place = stages::place_in(&session.head);
+    let answer = stages::judge_change(session, oid, t);
+    if answer.is_err() {
+        return answer;
     }
-    Reply {
-        answer: said,
-        released: 0,
-    }
+    holding::rule_room(place, buffer.len(), at, bytes.len())?;
+    stages::apply_change(session);
+    *held = holding::join(buffer, at, place, own, bytes);
+    answer
 }
 
 // Gives it a message of another kind.
-fn step_act<'a>(
-    head: &'a mut [u64; 6],
-    xids: &'a mut [u32; 16],
-    marks: &'a mut [u8; 16],
-    keys: &'a mut [u64; 256],
-    tags: &'a mut [u64; 256],
-    ids: &'a mut [u8; 256],
-    cols: &'a mut [u16; 256],
+fn step_act(
+    session: &mut Session,
     a: Act,
     bytes: &[u8],
     tag: u64,
@@ -94,74 +98,25 @@ fn step_act<'a>(
     held: &mut usize,
     out: &mut [u8],
 ) -> Reply
-    ensures { after (session_of head.new xids.new marks.new keys.new tags.new ids.new cols.new) result out.new (hold buffer.new held.new) ≡ event_after (session_of head.old xids.old marks.old keys.old tags.old ids.old cols.old) (hold buffer.old held.old) out.old (event_in a bytes.now) bytes.now tag }
+    ensures { after session.new result out.new (hold buffer.new held.new) ≡ event_after session.old (hold buffer.old held.old) out.old (event_in a bytes.now) bytes.now tag }
 {
     let at = *held;
-    let place = stages::place_in(head);
-    let answer = stages::judge_act(head, xids, marks, keys, tags, ids, cols, a, bytes);
+    let place = stages::place_in(&session.head);
+    let answer = stages::judge_act(session, a, bytes);
+    if answer.is_err() {
+        return Reply {
+            answer,
+            released: 0,
+        };
+    }
     let d = holding::deed_of(a);
-    let Reply {
-        answer: said,
-        released,
-    } = holding::judge(buffer, at, out.len(), place, d, bytes.len(), answer);
-    if session::accepted(said) {
-        stages::apply_act(head, xids, marks, keys, tags, ids, cols, a, tag);
-        *held = holding::apply(buffer, at, out, place, d, bytes);
-    }
-    Reply {
-        answer: said,
-        released,
-    }
-}
-
-// What reading's refusal gets.
-fn unread(number: u64, offset: usize) -> Reply
-    ensures { result ≡ reply (Answer.Refused (number % 256) offset) 0 }
-{
-    let answer = Answer::Refused {
-        number: (number % 256) as u8,
-        offset,
-    };
-    Reply {
-        answer,
-        released: 0,
-    }
-}
-
-// Gives it one message: the session looks and judges, the keeper judges, and where both accept both store. Nothing is read or judged twice.
-fn step_lent<'a>(
-    head: &'a mut [u64; 6],
-    xids: &'a mut [u32; 16],
-    marks: &'a mut [u8; 16],
-    keys: &'a mut [u64; 256],
-    tags: &'a mut [u64; 256],
-    ids: &'a mut [u8; 256],
-    cols: &'a mut [u16; 256],
-    bytes: &[u8],
-    tag: u64,
-    buffer: &mut [u8],
-    held: &mut usize,
-    out: &mut [u8],
-) -> Reply
-    ensures { after (session_of head.new xids.new marks.new keys.new tags.new ids.new cols.new) result out.new (hold buffer.new held.new) ≡ step_of (session_of head.old xids.old marks.old keys.old tags.old ids.old cols.old) (hold buffer.old held.old) out.old bytes.now tag }
-{
-    let looked = stages::look(head, bytes);
-    match looked {
-        Looked::Unread { number, offset } => unread(number, offset),
-        Looked::Change {
-            oid,
-            xid,
-            tuples: t,
-        } => {
-            step_change(
-                head, xids, marks, keys, tags, ids, cols, oid, xid, t, bytes, buffer, held,
-            )
+    match holding::judge(buffer, at, out.len(), place, d, bytes.len()) {
+        Ok(released) => {
+            stages::apply_act(session, a, tag);
+            *held = holding::apply(buffer, at, out, place, d, bytes);
+            Reply { answer, released }
         }
-        Looked::Other(a) => {
-            step_act(
-                head, xids, marks, keys, tags, ids, cols, a, bytes, tag, buffer, held, out,
-            )
-        }
+        Err(refusal) => Reply::refused(refusal),
     }
 }
 
@@ -177,37 +132,9 @@ pub fn step(
 ) -> KeeperStep
     ensures { after result.session result.reply out.new (hold buffer.new result.held) ≡ step_of session (hold buffer.old held) out.old bytes.now tag }
 {
-    let mut head = session.head;
-    let mut xids = session.stream_xids;
-    let mut marks = session.stream_changed;
-    let mut keys = session.keys;
-    let mut tags = session.tags;
-    let mut identities = session.identities;
-    let mut columns = session.columns;
+    let mut session = session;
     let mut holds = held;
-    let reply = step_lent(
-        &mut head,
-        &mut xids,
-        &mut marks,
-        &mut keys,
-        &mut tags,
-        &mut identities,
-        &mut columns,
-        bytes,
-        tag,
-        buffer,
-        &mut holds,
-        out,
-    );
-    let session = Session {
-        head,
-        stream_xids: xids,
-        stream_changed: marks,
-        keys,
-        tags,
-        identities,
-        columns,
-    };
+    let reply = give_lent(&mut session, bytes, tag, buffer, &mut holds, out);
     KeeperStep {
         session,
         reply,
@@ -215,7 +142,8 @@ pub fn step(
     }
 }
 
-// The same for a session that is lent: nothing of it is copied.
+// The same for a session that is lent, with no copy of it: the session looks and judges, the keeper judges, and where both accept both
+// store. Nothing is read or judged twice.
 pub fn give_lent(
     session: &mut Session,
     bytes: &[u8],
@@ -226,18 +154,12 @@ pub fn give_lent(
 ) -> Reply
     ensures { after session.new result out.new (hold buffer.new held.new) ≡ step_of session.old (hold buffer.old held.old) out.old bytes.now tag }
 {
-    step_lent(
-        &mut session.head,
-        &mut session.stream_xids,
-        &mut session.stream_changed,
-        &mut session.keys,
-        &mut session.tags,
-        &mut session.identities,
-        &mut session.columns,
-        bytes,
-        tag,
-        buffer,
-        held,
-        out,
-    )
+    match stages::look(&session.head, bytes) {
+        Ok(Looked::Change { oid, xid, tuples }) => Reply {
+            answer: step_change(session, oid, xid, tuples, bytes, buffer, held),
+            released: 0,
+        },
+        Ok(Looked::Other(a)) => step_act(session, a, bytes, tag, buffer, held, out),
+        Err(refusal) => Reply::refused(refusal),
+    }
 }

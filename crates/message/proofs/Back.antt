@@ -7,11 +7,9 @@ use native.Mathlib.Omega.{arith}
 use borrow.Author.Tests.{leb-true, le-leb, ltb-true, eqb-true, eq-eqb}
 use lib.ListN.{length, get_or, take, drop, length-append}
 use lib.Dec.{eqb, leb, ltb}
-use Rattle.wire.specs.declared.Cursor.{Cursor}
-use Rattle.wire.specs.declared.Cursor.TheVariants.{At}
-use Rattle.wire.specs.declared.Field64.{Field64}
-use Rattle.wire.specs.declared.Field8.{Field8}
-use Rattle.wire.specs.declared.FieldSpan.{FieldSpan}
+use Rattle.wire.specs.declared.Span.{Span}
+use Rattle.wire.specs.Cursors.{Cursor, Taken}
+use Rattle.std.specs.Prelude.{Ok}
 use Rattle.wire.specs.Fields.{number_field, letter_field, value_field, in_range, member, position_of}
 use Rattle.message.specs.Layout.{Field, Part, number, constant, letter, text, value, column, one, block_xid, groups, tuple, optional_tuple, read_field, read_group, read_part, read_fields, xid_field, Optional, optional, id, groups_end, tuple_end}
 use Rattle.message.specs.Messages.{largest}
@@ -76,31 +74,31 @@ Fine (p ∷ ps) = FinePart p ps × Fine ps
 
 -- reading from a on ends behind bs, and what was read says what was written
 pub record Reads (next : Cursor) (read written : List Content) (a : ℕ) (bs : List ℕ) : Type 0 where
-  pub ends : next ≡ At (a + length bs)
+  pub ends : next ≡ Ok (a + length bs)
   pub says : read ≡ written
 
 abbrev FieldReads : Field → List ℕ → List ℕ → List ℕ → ℕ → Type 0
-FieldReads f src v xs a = let r = read_field f xs (At a) in Reads r.next (field_says f xs r.values) (field_says f src v) a (bytes_of (field_pieces f src v))
+FieldReads f src v xs a = let r = read_field f xs (Ok a) in Reads r.next (field_says f xs r.values) (field_says f src v) a (bytes_of (field_pieces f src v))
 
 abbrev PartReads : Bool → Part → List ℕ → List ℕ → List ℕ → ℕ → Type 0
-PartReads b p src v xs a = let r = read_part b p xs (At a) in Reads r.next (part_says p xs r.values) (part_says p src v) a (bytes_of (part_pieces b p src v))
+PartReads b p src v xs a = let r = read_part b p xs (Ok a) in Reads r.next (part_says p xs r.values) (part_says p src v) a (bytes_of (part_pieces b p src v))
 
 and_right : (s t : Bool) → s && t ≡ true → t ≡ true
 and_right true t h = h
 and_right false t h = let z : ◌≡◌ {A = ℕ} 0 1 = cc in absurd (omega arith)
 
 -- what lies in its layout is read where it was copied to
-module _ (F : List ℕ → Cursor → Cursor) (f : Local F) (src : List ℕ) (s k : ℕ) (q : F src (At s) ≡ At k) (xs : List ℕ) (a : ℕ) (post : List ℕ) (h : From xs a (from_to src s (F src (At s))) post) where
-  size : length (from_to src s (F src (At s))) ≡ k - s
+module _ (F : List ℕ → Cursor → Cursor) (f : Local F) (src : List ℕ) (s k : ℕ) (q : F src (Ok s) ≡ Ok k) (xs : List ℕ) (a : ℕ) (post : List ℕ) (h : From xs a (from_to src s (F src (Ok s))) post) where
+  size : length (from_to src s (F src (Ok s))) ≡ k - s
   size = ap (λ (c : Cursor). length (from_to src s c)) q ∙ length_cut src s (k - s) (f.inside src s k q)
 
   agrees : Agree src s xs a (k - s)
   agrees = from_agree src post s (k - s) (f.inside src s k q) (subst (λ (c : Cursor). From xs a (from_to src s c) post) q h)
 
-  section_ends : F xs (At a) ≡ At (a + length (from_to src s (F src (At s))))
-  section_ends = f.moves src xs s a k q agrees ∙ ap (λ (n : ℕ). At (a + n)) (sym size)
+  section_ends : F xs (Ok a) ≡ Ok (a + length (from_to src s (F src (Ok s))))
+  section_ends = f.moves src xs s a k q agrees ∙ ap (λ (n : ℕ). Ok (a + n)) (sym size)
 
-  section_says : from_to xs a (F xs (At a)) ≡ from_to src s (F src (At s))
+  section_says : from_to xs a (F xs (Ok a)) ≡ from_to src s (F src (Ok s))
   section_says =
       let w : a + (k - s) - a ≡ k - s = omega arith in
       ap (from_to xs a) (f.moves src xs s a k q agrees) ∙ ap (cut xs a) w ∙ cut-same (k - s) agrees ∙ ap (from_to src s) (sym q)
@@ -108,7 +106,7 @@ module _ (F : List ℕ → Cursor → Cursor) (f : Local F) (src : List ℕ) (s 
 module _ (xs : List ℕ) (a : ℕ) (post : List ℕ) where
   number_reads :
       (w low high n v : ℕ) → ltb high (256 ^ w) ≡ true → Good (number_piece w low high n v) → From xs a (digits w v) post
-      → number_field w low high n xs (At a) ≡ record { value = v; next = At (a + length (digits w v)) }
+      → number_field w low high n xs (Ok a) ≡ record { value = v; next = Ok (a + length (digits w v)) }
   number_reads w low high n v c g h =
       let i = (test_good (in_range low high v) w n g.0 g.1).0 in
       let r : v ≤ high = leb-true v high (and_right (leb low v) (leb v high) i) in
@@ -117,7 +115,7 @@ module _ (xs : List ℕ) (a : ℕ) (post : List ℕ) where
 
   value_reads :
       (src : List ℕ) (s n : ℕ) → n ≤ largest → s + n ≤ length src → From xs a (digits 4 n ++ cut src s n) post
-      → value_field xs (At a) ≡ record { value = record { start = a + 4; length = n }; next = At (a + 4 + n) }
+      → value_field xs (Ok a) ≡ record { value = record { start = a + 4; length = n }; next = Ok (a + 4 + n) }
   unfolding value_field
   value_reads src s n m l h =
       let f = from_first (digits 4 n) (cut src s n) post h in
@@ -133,13 +131,13 @@ module _ (src xs : List ℕ) (a : ℕ) (post : List ℕ) where
   field_reads (number w low high) v c g h =
       let d = digits w (get_or v 0 0) in
       let e = number_reads xs a post w low high 4 (get_or v 0 0) c g.0 (from_first d [] post h) in
-      record { ends = ap (λ (f : Field64). f.next) e ∙ rw (append-nil d); says = ap (λ (f : Field64). num f.value ∷ []) e }
+      record { ends = ap (λ (f : Taken ℕ). f.next) e ∙ rw (append-nil d); says = ap (λ (f : Taken ℕ). num f.value ∷ []) e }
   field_reads (constant k) v c g h =
       let e = letter-from post (k ∷ []) k h (rw (eq-eqb k k refl)) in
-      record { ends = ap (λ (f : Field8). f.next) e; says = refl }
+      record { ends = ap (λ (f : Taken ℕ). f.next) e; says = refl }
   field_reads (letter set) v c g h =
       let e = letter-from post set (get_or v 0 0) h (test_good (member set (get_or v 0 0)) 1 4 g.0.0 g.0.1).0 in
-      record { ends = ap (λ (f : Field8). f.next) e; says = ap (λ (f : Field8). num f.value ∷ []) e }
+      record { ends = ap (λ (f : Taken ℕ). f.next) e; says = ap (λ (f : Taken ℕ). num f.value ∷ []) e }
   field_reads text v c g h =
       let s = get_or v 0 0 in
       let n = get_or v 1 0 in
@@ -148,8 +146,8 @@ module _ (src xs : List ℕ) (a : ℕ) (post : List ℕ) where
       let e = text-from post t i (text-good src s n g.0.0 g.0.1).1 in
       let l : a + length t + 1 ≡ a + length ((t ++ (0 ∷ [])) ++ []) = omega (arith, length-append (t ++ (0 ∷ [])) [], length-append t (0 ∷ [])) in
       record {
-        ends = ap (λ (f : FieldSpan). f.next) e ∙ ap At l;
-        says = ap (λ (f : FieldSpan). bytes (cut xs f.value.start f.value.length) ∷ []) e ∙ ap (λ (b : List ℕ). bytes b ∷ []) (from_cut t ((0 ∷ []) ++ post) (from_first t (0 ∷ []) post i));
+        ends = ap (λ (f : Taken Span). f.next) e ∙ ap Ok l;
+        says = ap (λ (f : Taken Span). bytes (cut xs f.value.start f.value.length) ∷ []) e ∙ ap (λ (b : List ℕ). bytes b ∷ []) (from_cut t ((0 ∷ []) ++ post) (from_first t (0 ∷ []) post i));
       }
   field_reads value v c g h =
       let s = get_or v 0 0 in
@@ -165,8 +163,8 @@ module _ (src xs : List ℕ) (a : ℕ) (post : List ℕ) where
       let p : a + length d ≡ a + 4 = ap (λ (n : ℕ). a + n) (length_digits 4 n) in
       let next = from_next d t post (from_first d t post h') in
       record {
-        ends = ap (λ (f : FieldSpan). f.next) e ∙ ap At r;
-        says = ap (λ (f : FieldSpan). bytes (cut xs f.value.start f.value.length) ∷ []) e
+        ends = ap (λ (f : Taken Span). f.next) e ∙ ap Ok r;
+        says = ap (λ (f : Taken Span). bytes (cut xs f.value.start f.value.length) ∷ []) e
             ∙ ap (λ (b : List ℕ). bytes b ∷ []) (ap (λ (m : ℕ). cut xs (a + 4) m) (sym k) ∙ ap (λ (m : ℕ). cut xs m (length t)) (sym p) ∙ from_cut t post next);
       }
   field_reads column v c g h = absurd c
@@ -174,8 +172,8 @@ module _ (src xs : List ℕ) (a : ℕ) (post : List ℕ) where
 module _ (src xs : List ℕ) where
   group_reads :
       (fs : List Field) (v tail post : List ℕ) (a : ℕ) → FineGroup fs → AllGood (group_pieces fs src v) → From xs a (bytes_of (group_pieces fs src v)) post
-      → (let r = read_group fs xs (At a) in Reads r.next (group_says fs xs (r.values ++ tail)) (group_says fs src v) a (bytes_of (group_pieces fs src v)))
-  group_reads [] v tail post a c g h = let z : a + 0 ≡ a = omega arith in record { ends = ap At (sym z); says = refl }
+      → (let r = read_group fs xs (Ok a) in Reads r.next (group_says fs xs (r.values ++ tail)) (group_says fs src v) a (bytes_of (group_pieces fs src v)))
+  group_reads [] v tail post a c g h = let z : a + 0 ≡ a = omega arith in record { ends = ap Ok (sym z); says = refl }
   group_reads (f ∷ fs) v tail post a c g h =
       let u = take (arity f) v in
       let w = drop (arity f) v in
@@ -188,16 +186,16 @@ module _ (src xs : List ℕ) where
       let i = from_first bs cs post h' in
       let r = field_reads src xs a (cs ++ post) f u c.0 k.0 i in
       let again = group_reads fs w tail post (a + length bs) c.1 k.1 (from_next bs cs post i) in
-      let n = (read_field f xs (At a)).next in
+      let n = (read_field f xs (Ok a)).next in
       let l : a + length bs + length cs ≡ a + length (bytes_of (ps ++ qs)) = omega (arith, length-append bs cs, ap length (bytes-append ps qs)) in
       record {
-        ends = ap (λ (d : Cursor). (read_group fs xs d).next) r.ends ∙ again.ends ∙ ap At l;
+        ends = ap (λ (d : Cursor). (read_group fs xs d).next) r.ends ∙ again.ends ∙ ap Ok l;
         says =
-            rw (append_assoc (read_field f xs (At a)).values (read_group fs xs n).values tail, first f xs (At a) ((read_group fs xs n).values ++ tail), rest f xs (At a) ((read_group fs xs n).values ++ tail), r.says)
+            rw (append_assoc (read_field f xs (Ok a)).values (read_group fs xs n).values tail, first f xs (Ok a) ((read_group fs xs n).values ++ tail), rest f xs (Ok a) ((read_group fs xs n).values ++ tail), r.says)
             (ap (λ (d : Cursor). field_says f src u ++ group_says fs xs ((read_group fs xs d).values ++ tail)) r.ends ∙ ap (λ (s : List Content). field_says f src u ++ s) again.says);
       }
 
-letter_not : (set xs : List ℕ) (a : ℕ) → member set (get_or xs a 0) ≡ false → (t : Bool) → ltb a (length xs) ≡ t → (letter_field set xs (At a)).value ≡ 0
+letter_not : (set xs : List ℕ) (a : ℕ) → member set (get_or xs a 0) ≡ false → (t : Bool) → ltb a (length xs) ≡ t → (letter_field set xs (Ok a)).value ≡ 0
 unfolding letter_field
 letter_not set xs a m true e = rw (e, m)
 letter_not set xs a m false e = rw e
@@ -218,7 +216,7 @@ module _ (b : Bool) (src xs : List ℕ) (a : ℕ) (post : List ℕ) where
       let n = get_or v 0 0 in
       let start = get_or (drop 1 v) (arities between) 0 in
       let ps = group_pieces between src (drop 1 v) in
-      let section = section_piece src start (groups_end fs src n (At start)) in
+      let section = section_piece src start (groups_end fs src n (Ok start)) in
       let b₁ = digits w n in
       let b₂ = bytes_of ps in
       let b₃ = section.bytes in
@@ -230,25 +228,25 @@ module _ (b : Bool) (src xs : List ℕ) (a : ℕ) (post : List ℕ) where
       let j = from_first b₂ b₃ post (from_next b₁ (b₂ ++ b₃) post i) in
       let a₁ = a + length b₁ in
       let a₂ = a + length b₁ + length b₂ in
-      let p = position_of (read_group between xs (At a₁)).next in
+      let p = position_of (read_group between xs (Ok a₁)).next in
       let r = group_reads src xs between (drop 1 v) (p ∷ []) (b₃ ++ post) a₁ d k.0 j in
       let m = from_next b₂ b₃ post j in
-      let q : groups_end fs src n (At start) ≡ At k.1.0.0 = k.1.0.1 in
+      let q : groups_end fs src n (Ok start) ≡ Ok k.1.0.0 = k.1.0.1 in
       let end = section_ends (λ ys c. groups_end fs ys n c) (groups_local fs n) src start k.1.0.0 q xs a₂ post m in
       let said = section_says (λ ys c. groups_end fs ys n c) (groups_local fs n) src start k.1.0.0 q xs a₂ post m in
       let l : a₂ + length b₃ ≡ a + length (b₁ ++ bytes_of (ps ++ (section ∷ []))) = omega (arith, length-append b₁ (bytes_of (ps ++ (section ∷ []))), ap length split, length-append b₂ b₃) in
       let at : p ≡ a₂ = ap position_of r.ends in
       record {
-        ends = ap (λ (f : Field64). groups_end fs xs f.value (read_group between xs f.next).next) e
-            ∙ ap (groups_end fs xs n) r.ends ∙ end ∙ ap At l;
+        ends = ap (λ (f : Taken ℕ). groups_end fs xs f.value (read_group between xs f.next).next) e
+            ∙ ap (groups_end fs xs n) r.ends ∙ end ∙ ap Ok l;
         says = ap
-            (λ (f : Field64).
+            (λ (f : Taken ℕ).
             let s = read_group between xs f.next in
             let at = get_or (s.values ++ (position_of s.next ∷ [])) (arities between) 0 in
-            num f.value ∷ group_says between xs (s.values ++ (position_of s.next ∷ [])) ++ (bytes (from_to xs at (groups_end fs xs f.value (At at))) ∷ []))
+            num f.value ∷ group_says between xs (s.values ++ (position_of s.next ∷ [])) ++ (bytes (from_to xs at (groups_end fs xs f.value (Ok at))) ∷ []))
             e
-            ∙ ap (λ (z : ℕ). num n ∷ group_says between xs ((read_group between xs (At a₁)).values ++ (p ∷ [])) ++ (bytes (from_to xs z (groups_end fs xs n (At z))) ∷ [])) (behind between xs (At a₁) p ∙ at)
-            ∙ ap (λ (s : List Content). num n ∷ s ++ (bytes (from_to xs a₂ (groups_end fs xs n (At a₂))) ∷ [])) r.says
+            ∙ ap (λ (z : ℕ). num n ∷ group_says between xs ((read_group between xs (Ok a₁)).values ++ (p ∷ [])) ++ (bytes (from_to xs z (groups_end fs xs n (Ok z))) ∷ [])) (behind between xs (Ok a₁) p ∙ at)
+            ∙ ap (λ (s : List Content). num n ∷ s ++ (bytes (from_to xs a₂ (groups_end fs xs n (Ok a₂))) ∷ [])) r.says
             ∙ ap (λ (s : List ℕ). num n ∷ group_says between src (drop 1 v) ++ (bytes s ∷ [])) said;
       }
 
@@ -258,31 +256,31 @@ module _ (b : Bool) (src xs : List ℕ) (a : ℕ) (post : List ℕ) where
 
   optional_read :
       (set : List ℕ) (l s : ℕ) → Clear (optional_tuple set) post → (t : Bool) → eqb l 0 ≡ t → AllGood (OldPieces set l s t) → From xs a (bytes_of (OldPieces set l s t)) post
-      → (let o = optional set xs (At a) in
-      Reads o.next (part_says (optional_tuple set) xs (o.letter ∷ o.start ∷ [])) (num l ∷ cond t [] (bytes (from_to src s (tuple_end src (At s))) ∷ [])) a (bytes_of (OldPieces set l s t)))
+      → (let o = optional set xs (Ok a) in
+      Reads o.next (part_says (optional_tuple set) xs (o.letter ∷ o.start ∷ [])) (num l ∷ cond t [] (bytes (from_to src s (tuple_end src (Ok s))) ∷ [])) a (bytes_of (OldPieces set l s t)))
   unfolding optional
   optional_read set l s c true e g h =
       let k : l ≡ 0 = eqb-true l 0 e in
       let f : From xs a (c.0 ∷ []) c.1 = record { at = h.at; is = h.is ∙ c.2 } in
       let byte : get_or xs a 0 ≡ c.0 = from_byte c.0 [] c.1 f in
-      let none : (letter_field set xs (At a)).value ≡ 0 = letter_not set xs a (ap (member set) byte ∙ c.3) (ltb a (length xs)) refl in
+      let none : (letter_field set xs (Ok a)).value ≡ 0 = letter_not set xs a (ap (member set) byte ∙ c.3) (ltb a (length xs)) refl in
       let z : a + 0 ≡ a = omega arith in
-      let o : optional set xs (At a) ≡ record { letter = 0; start = 0; next = At a } = rw none in
-      record { ends = ap (λ (o : Optional). o.next) o ∙ ap At (sym z); says = ap (λ (o : Optional). part_says (optional_tuple set) xs (o.letter ∷ o.start ∷ [])) o ∙ ap (λ (n : ℕ). num n ∷ []) (sym k) }
+      let o : optional set xs (Ok a) ≡ record { letter = 0; start = 0; next = Ok a } = rw none in
+      record { ends = ap (λ (o : Optional). o.next) o ∙ ap Ok (sym z); says = ap (λ (o : Optional). part_says (optional_tuple set) xs (o.letter ∷ o.start ∷ [])) o ∙ ap (λ (n : ℕ). num n ∷ []) (sym k) }
   optional_read set l s c false e g h =
-      let t = from_to src s (tuple_end src (At s)) in
+      let t = from_to src s (tuple_end src (Ok s)) in
       let h' : From xs a (l ∷ t) post = rw (append-nil t) at h in
       let i = from_first (l ∷ []) t post h' in
       let letter = letter-from (t ++ post) set l i (test_good (member set l) 1 4 g.0.0 g.0.1).0 in
       let j = from_next (l ∷ []) t post i in
-      let o : optional set xs (At a) ≡ record { letter = l; start = a + 1; next = tuple_end xs (At (a + 1)) } = rw (letter, e) in
+      let o : optional set xs (Ok a) ≡ record { letter = l; start = a + 1; next = tuple_end xs (Ok (a + 1)) } = rw (letter, e) in
       let end = section_ends tuple_end tuple_local src s g.1.0.0 g.1.0.1 xs (a + 1) post j in
       let said = section_says tuple_end tuple_local src s g.1.0.0 g.1.0.1 xs (a + 1) post j in
       let n : a + 1 + length t ≡ a + length (l ∷ t ++ []) = omega (arith, length-append t []) in
       record {
-        ends = ap (λ (o : Optional). o.next) o ∙ end ∙ ap At n;
+        ends = ap (λ (o : Optional). o.next) o ∙ end ∙ ap Ok n;
         says = ap (λ (o : Optional). part_says (optional_tuple set) xs (o.letter ∷ o.start ∷ [])) o
-            ∙ ap (λ (x : Bool). num l ∷ cond x [] (bytes (from_to xs (a + 1) (tuple_end xs (At (a + 1)))) ∷ [])) e
+            ∙ ap (λ (x : Bool). num l ∷ cond x [] (bytes (from_to xs (a + 1) (tuple_end xs (Ok (a + 1)))) ∷ [])) e
             ∙ ap (λ (x : List ℕ). num l ∷ bytes x ∷ []) said;
       }
 
@@ -296,11 +294,11 @@ module _ (b : Bool) (src xs : List ℕ) (a : ℕ) (post : List ℕ) where
       go false g h =
           let z : a + 0 ≡ a = omega arith in
           let k : get_or v 0 0 ≡ 0 = eqb-true (get_or v 0 0) 0 (test_good (eqb (get_or v 0 0) 0) 0 4 g.0.0 g.0.1).0 in
-          record { ends = ap At (sym z); says = ap (λ (n : ℕ). num n ∷ []) (sym k) }
+          record { ends = ap Ok (sym z); says = ap (λ (n : ℕ). num n ∷ []) (sym k) }
   part_reads (groups w low high between fs) ps v c g k h = groups_read w low high between fs v c.0 c.1 g h
   part_reads tuple ps v c g k h =
       let s = get_or v 0 0 in
-      let t = from_to src s (tuple_end src (At s)) in
+      let t = from_to src s (tuple_end src (Ok s)) in
       let i = from_first t [] post h in
       record {
         ends = section_ends tuple_end tuple_local src s g.0.0 g.0.1 xs a post i ∙ rw (append-nil t);
@@ -333,8 +331,8 @@ clear_of b (optional_tuple set) (q ∷ ps) src vs post c = go q c
 
 pub layout_reads :
     (b : Bool) (src xs : List ℕ) (ps : List Part) (vs : List (List ℕ)) (a : ℕ) (post : List ℕ) → Fine ps → AllGood (layout_pieces b ps src vs) → From xs a (bytes_of (layout_pieces b ps src vs)) post
-    → (let r = read_fields b ps xs (At a) in Reads r.next (layout_says ps xs r.parts) (layout_says ps src vs) a (bytes_of (layout_pieces b ps src vs)))
-layout_reads b src xs [] vs a post c g h = let z : a + 0 ≡ a = omega arith in record { ends = ap At (sym z); says = refl }
+    → (let r = read_fields b ps xs (Ok a) in Reads r.next (layout_says ps xs r.parts) (layout_says ps src vs) a (bytes_of (layout_pieces b ps src vs)))
+layout_reads b src xs [] vs a post c g h = let z : a + 0 ≡ a = omega arith in record { ends = ap Ok (sym z); says = refl }
 layout_reads b src xs (p ∷ ps) vs a post c g h =
     let v = get_or vs 0 [] in
     let us = part_pieces b p src v in
@@ -348,6 +346,6 @@ layout_reads b src xs (p ∷ ps) vs a post c g h =
     let again = layout_reads b src xs ps (drop 1 vs) (a + length bs) post c.1 k.1 (from_next bs cs post i) in
     let l : a + length bs + length cs ≡ a + length (bytes_of (us ++ ws)) = omega (arith, length-append bs cs, ap length (bytes-append us ws)) in
     record {
-      ends = ap (λ (d : Cursor). (read_fields b ps xs d).next) r.ends ∙ again.ends ∙ ap At l;
+      ends = ap (λ (d : Cursor). (read_fields b ps xs d).next) r.ends ∙ again.ends ∙ ap Ok l;
       says = rw r.says (ap (λ (d : Cursor). part_says p src v ++ layout_says ps xs (read_fields b ps xs d).parts) r.ends ∙ ap (λ (s : List Content). part_says p src v ++ s) again.says);
     }

@@ -8,7 +8,7 @@ use native.Mathlib.Omega.{arith}
 use lib.ListN.{length, get_or, take, drop, length-drop, length-append, get_or-append}
 use lib.Seq.{drop-drop, drop-append_seam, take-append_seam, get_or_at, get_or-drop, get_or-take}
 use lib.Dec.{eqb}
-use Rattle.wire.specs.declared.Cursor.TheVariants.{At}
+use Rattle.std.specs.Prelude.{Ok}
 use Rattle.wire.specs.Numbers.{be}
 use Rattle.wire.specs.Fields.{number_field, text_field, letter_field, bytes_field, in_range, member, until_zero}
 use Rattle.wire.proofs.There.{number_read, letter_read, text_read, bytes_read}
@@ -83,13 +83,13 @@ until_text (x ∷ t) post h = go (until_text t post) (eqb x 0) h
 module _ {xs : List ℕ} {a : ℕ} (post : List ℕ) where
   pub number-from :
       (w low high n v : ℕ) → From xs a (digits w v) post → v < 256 ^ w → in_range low high v ≡ true
-      → number_field w low high n xs (At a) ≡ record { value = v; next = At (a + w) }
+      → number_field w low high n xs (Ok a) ≡ record { value = v; next = Ok (a + w) }
   number-from w low high n v f h i =
       let e = be-from xs a w v post f h in
       let l : a + w ≤ length xs = omega (arith, from-length (digits w v) post f, length_digits w v) in
       number_read w low high n xs a l (ap (in_range low high) e ∙ i) ∙ rw e
 
-  pub letter-from : (set : List ℕ) (v : ℕ) → From xs a (v ∷ []) post → member set v ≡ true → letter_field set xs (At a) ≡ record { value = v; next = At (a + 1) }
+  pub letter-from : (set : List ℕ) (v : ℕ) → From xs a (v ∷ []) post → member set v ≡ true → letter_field set xs (Ok a) ≡ record { value = v; next = Ok (a + 1) }
   letter-from set v f m =
       let e : get_or xs a 0 ≡ v = from_byte v [] post f in
       let l : a < length xs = omega (arith, from-length (v ∷ []) post f) in
@@ -97,10 +97,10 @@ module _ {xs : List ℕ} {a : ℕ} (post : List ℕ) where
 
   pub text-from :
       (t : List ℕ) → From xs a (t ++ (0 ∷ [])) post → member t 0 ≡ false
-      → text_field xs (At a) ≡ record { value = record { start = a; length = length t }; next = At (a + length t + 1) }
+      → text_field xs (Ok a) ≡ record { value = record { start = a; length = length t }; next = Ok (a + length t + 1) }
   text-from t f h =
       text_read xs a (length t) (ap until_zero (f.is ∙ append_assoc t (0 ∷ []) post) ∙ until_text t post h)
       (omega (arith, from-length (t ++ (0 ∷ [])) post f, length-append t (0 ∷ [])))
 
-  pub bytes-from : (bs : List ℕ) → From xs a bs post → bytes_field (length bs) xs (At a) ≡ record { value = record { start = a; length = length bs }; next = At (a + length bs) }
+  pub bytes-from : (bs : List ℕ) → From xs a bs post → bytes_field (length bs) xs (Ok a) ≡ record { value = record { start = a; length = length bs }; next = Ok (a + length bs) }
   bytes-from bs f = bytes_read xs a (length bs) (omega (arith, from-length bs post f))

@@ -2,29 +2,23 @@
 use Prim.Native.Nat.{ℕ, zero, suc, ◌+◌, ◌≤◌}
 use mathlib.Core.List.{List, [], ◌∷◌}
 use mathlib.Core.Bool.{Bool, true, false, not, cond}
-use mathlib.Core.Option.{Option, none, some}
+use Rattle.std.specs.Prelude.{Option, None, Some, Ok, Err}
 use mathlib.Core.Path.{◌≡◌, refl}
 use native.Mathlib.Omega.{arith}
 use borrow.Author.Tests.{leb-true, ltb-true, eqb-false}
 use lib.ListN.{length, get_or}
 use lib.Dec.{eqb, leb, ltb}
-use Rattle.wire.specs.declared.Word.TheVariants.{Value, Short}
-use Rattle.wire.specs.declared.Cursor.{Cursor}
-use Rattle.wire.specs.declared.Cursor.TheVariants.{At, Refused}
-use Rattle.wire.specs.declared.Field64.{Field64}
-use Rattle.wire.specs.declared.Field8.{Field8}
-use Rattle.wire.specs.declared.FieldSpan.{FieldSpan}
+use Rattle.wire.specs.declared.Span.{Span}
+use Rattle.wire.specs.Cursors.{Cursor, refuse, Taken}
 use Rattle.wire.specs.Numbers.{be, word_at}
-use Rattle.wire.specs.Fields.{number_field, letter_field, text_field, bytes_field, value_field, judged, in_range, member, no_number, no_letter, position_of}
+use Rattle.wire.specs.Fields.{number_field, letter_field, text_field, bytes_field, value_field, judged, in_range, member, no_number, position_of}
 use Rattle.wire.proofs.Cases.{text_cases, bytes_cases}
 use Rattle.message.specs.declared.Version.{Version}
 use Rattle.message.specs.declared.Message.{Message}
-use Rattle.message.specs.declared.Read.{Read}
-use Rattle.message.specs.declared.Read.TheVariants as read
+use Rattle.message.specs.Messages.{Read, largest, finished, settled, message_of, read_kind, read_named, read_message}
 use Rattle.message.specs.Layout.{Field, Part, number, constant, letter, text, value, column, one, block_xid, groups, tuple, optional_tuple, id, column_letters, has_value, most_columns, column_count, column_end, read_field, read_group, times, groups_end, tuple_end, Optional, optional, xid_field, read_part, read_fields}
 use Rattle.message.specs.Kinds.{Kind, layout, kind_of}
 use Rattle.message.specs.Versions.{version_allows, version_has}
-use Rattle.message.specs.Messages.{largest, refuse, finished, settled, message_of, read_kind, read_named, read_message}
 
 -- a refusal numbered 1 to `last`, at an offset that is at most `end`
 pub record InRange (last end number offset : ℕ) : Type 0 where
@@ -56,8 +50,8 @@ six = within 6 (omega arith) (omega arith)
 
 -- a cursor that stands, or has refused, inside
 abbrev pub Fine : ℕ → Cursor → Type 0
-Fine end (At a) = a ≤ end
-Fine end (Refused n o) = InRange 6 end n o
+Fine end (Ok a) = a ≤ end
+Fine end (Err r) = InRange 6 end r.number r.offset
 
 pub at : {n o end most offset : ℕ} → InRange 6 most n offset → o ≤ end → InRange 6 end n o
 at i h = record { from_one = i.from_one; to_last = i.to_last; inside = h }
@@ -65,37 +59,37 @@ at i h = record { from_one = i.from_one; to_last = i.to_last; inside = h }
 module _ (xs : List ℕ) (end : ℕ) (inside : length xs ≤ end) where
   pub number_fine : (w low high n : ℕ) → Named n → (c : Cursor) → Fine end c → Fine end (number_field w low high n xs c).next
   unfolding number_field word_at
-  number_fine w low high n i (Refused m o) f = f
-  number_fine w low high n i (At a) f = go (leb (a + w) (length xs)) refl
+  number_fine w low high n i (Err r) f = f
+  number_fine w low high n i (Ok a) f = go (leb (a + w) (length xs)) refl
     where
-      test : a + w ≤ length xs → (t : Bool) → Fine end (cond {A = Field64} t (record { value = be w xs a; next = At (a + w) }) (no_number (Refused n a))).next
+      test : a + w ≤ length xs → (t : Bool) → Fine end (cond {A = Taken ℕ} t (record { value = be w xs a; next = Ok (a + w) }) (no_number (refuse n a))).next
       test h true = omega arith
       test h false = at i f
 
-      go : (t : Bool) → leb (a + w) (length xs) ≡ t → Fine end (judged w low high n a (cond t (Value (be w xs a)) Short)).next
+      go : (t : Bool) → leb (a + w) (length xs) ≡ t → Fine end (judged w low high n a (cond t (Some (be w xs a)) None)).next
       go true e = test (leb-true (a + w) (length xs) e) (in_range low high (be w xs a))
       go false e = at two f
 
   pub letter_fine : (set : List ℕ) (c : Cursor) → Fine end c → Fine end (letter_field set xs c).next
   unfolding letter_field
-  letter_fine set (Refused m o) f = f
-  letter_fine set (At a) f = go (ltb a (length xs)) refl (member set (get_or xs a 0))
+  letter_fine set (Err r) f = f
+  letter_fine set (Ok a) f = go (ltb a (length xs)) refl (member set (get_or xs a 0))
     where
       go : (t : Bool) → ltb a (length xs) ≡ t → (m : Bool)
-          → Fine end (cond {A = Field8} t (cond m (record { value = get_or xs a 0; next = At (a + 1) }) (no_letter (Refused 4 a))) (no_letter (Refused 2 a))).next
+          → Fine end (cond {A = Taken ℕ} t (cond m (record { value = get_or xs a 0; next = Ok (a + 1) }) (no_number (refuse 4 a))) (no_number (refuse 2 a))).next
       go true e true = omega (arith, ltb-true a (length xs) e)
       go true e false = at four f
       go false e m = at two f
 
   pub text_fine : (c : Cursor) → Fine end c → Fine end (text_field xs c).next
   unfolding text_field
-  text_fine (Refused m o) f = f
-  text_fine (At a) f = text_cases xs a (λ (s : FieldSpan). Fine end s.next) (at two f) (λ h. omega arith)
+  text_fine (Err r) f = f
+  text_fine (Ok a) f = text_cases xs a (λ (s : Taken Span). Fine end s.next) (at two f) (λ h. omega arith)
 
   pub bytes_fine : (n : ℕ) (c : Cursor) → Fine end c → Fine end (bytes_field n xs c).next
   unfolding bytes_field
-  bytes_fine n (Refused m o) f = f
-  bytes_fine n (At a) f = bytes_cases xs a (λ (s : FieldSpan). Fine end s.next) (at two f) n (λ h. omega arith)
+  bytes_fine n (Err r) f = f
+  bytes_fine n (Ok a) f = bytes_cases xs a (λ (s : Taken Span). Fine end s.next) (at two f) n (λ h. omega arith)
 
   value_fine : (c : Cursor) → Fine end c → Fine end (value_field xs c).next
   unfolding value_field
@@ -161,14 +155,14 @@ module _ (xs : List ℕ) (end : ℕ) (inside : length xs ≤ end) where
 -- what is read
 module _ (xs : List ℕ) where
   abbrev Told : Read → Type 0
-  Told (read.Message m) = Unit {0}
-  Told (read.Refused r) = InRange 6 (length xs) r.number r.offset
+  Told (Ok m) = Unit {0}
+  Told (Err r) = InRange 6 (length xs) r.number r.offset
 
   settled-told : (c : Cursor) (m : Message) → Fine (length xs) c → Told (settled (finished xs c) m)
-  settled-told (Refused n o) m f = f
-  settled-told (At a) m f = go (eqb a (length xs))
+  settled-told (Err r) m f = f
+  settled-told (Ok a) m f = go (eqb a (length xs))
     where
-      go : (t : Bool) → Told (settled (cond t (At a) (Refused 5 a)) m)
+      go : (t : Bool) → Told (settled (cond t (Ok a) (refuse 5 a)) m)
       go true = tt
       go false = at (within 5 (omega arith) (omega arith)) f
 
@@ -177,10 +171,10 @@ module _ (xs : List ℕ) where
 
   named-told : (b : Bool) (k : Option Kind) → 1 ≤ length xs → Told (read_named k b xs)
   unfolding read_kind
-  named-told b none h = first-told 3 (omega arith) (omega arith)
-  named-told b (some k) h =
-      let r = read_fields b (layout k) xs (At 1) in
-      settled-told r.next (message_of k r.parts) (fields_fine xs (length xs) (omega arith) b (layout k) (At 1) h)
+  named-told b None h = first-told 3 (omega arith) (omega arith)
+  named-told b (Some k) h =
+      let r = read_fields b (layout k) xs (Ok 1) in
+      settled-told r.next (message_of k r.parts) (fields_fine xs (length xs) (omega arith) b (layout k) (Ok 1) h)
 
   read_told : (v : Version) (b : Bool) → Told (read_message v b xs)
   unfolding read_message

@@ -2,15 +2,14 @@
 use Prim.Native.Nat.{ℕ, zero, suc, ◌+◌, ◌-◌, ◌/◌, ◌%◌, ◌≤◌}
 use mathlib.Core.List.{List, [], ◌∷◌, ◌++◌, append_assoc}
 use mathlib.Core.Bool.{Bool, true, false, not, cond}
-use mathlib.Core.Option.{Option, some}
+use Rattle.std.specs.Prelude.{Option, Some, Ok, Err}
 use mathlib.Core.Path.{◌≡◌, refl, ◌∙◌, ap}
 use native.Mathlib.Omega.{arith}
 use borrow.Author.Tests.{leb-true}
 use lib.ListN.{length, get_or, take, drop, length-drop, length-append}
 use lib.Seq.{length-take-le}
 use lib.Dec.{eqb, leb}
-use Rattle.wire.specs.declared.Cursor.{Cursor}
-use Rattle.wire.specs.declared.Cursor.TheVariants.{At, Refused}
+use Rattle.wire.specs.Cursors.{Cursor, refuse}
 use Rattle.wire.specs.Numbers.{most32}
 use Rattle.wire.specs.Fields.{in_range, member}
 use Rattle.wire.proofs.There.{no}
@@ -36,29 +35,29 @@ pub length_cut : (src : List ℕ) (s n : ℕ) → n ≤ length src - s → lengt
 length_cut src s n h = let l : n ≤ length (drop s src) = simp length-drop (omega arith) in length-take-le n (drop s src) l
 
 -- a test that was good
-pub test_good : (t : Bool) (w n k : ℕ) → tested t w n ≡ At k → (t ≡ true) × (w ≡ k)
+pub test_good : (t : Bool) (w n k : ℕ) → tested t w n ≡ Ok k → (t ≡ true) × (w ≡ k)
 test_good true w n k q = (refl, (cc))
 test_good false w n k q = no refl q
 
-pub text-good : (src : List ℕ) (s n k : ℕ) → text_judgement src s n ≡ At k → (s + n ≤ length src) × (member (cut src s n) 0 ≡ false) × (k ≡ n + 1)
+pub text-good : (src : List ℕ) (s n k : ℕ) → text_judgement src s n ≡ Ok k → (s + n ≤ length src) × (member (cut src s n) 0 ≡ false) × (k ≡ n + 1)
 text-good src s n k q = go (leb (s + n) (length src)) refl (member (cut src s n) 0) refl q
   where
-    go : (t : Bool) → leb (s + n) (length src) ≡ t → (m : Bool) → member (cut src s n) 0 ≡ m → cond t (cond m (Refused 4 0) (At (n + 1))) (Refused 2 0) ≡ At k
+    go : (t : Bool) → leb (s + n) (length src) ≡ t → (m : Bool) → member (cut src s n) 0 ≡ m → cond t (cond m (refuse 4 0) (Ok (n + 1))) (refuse 2 0) ≡ Ok k
         → (s + n ≤ length src) × (member (cut src s n) 0 ≡ false) × (k ≡ n + 1)
     go true f false g q = (leb-true (s + n) (length src) f, g, (cc))
     go true f true g q = no refl q
     go false f m g q = no refl q
 
-placed-good : (at s : ℕ) (j : Cursor) (m : ℕ) → placed at s j ≡ At m → (k : ℕ) × (j ≡ At k) × (k - s ≤ largest) × (m ≡ at + (k - s)) × (m ≤ largest)
+placed-good : (at s : ℕ) (j : Cursor) (m : ℕ) → placed at s j ≡ Ok m → (k : ℕ) × (j ≡ Ok k) × (k - s ≤ largest) × (m ≡ at + (k - s)) × (m ≤ largest)
 unfolding placed
-placed-good at s (At k) m q = go (leb (at + (k - s)) largest) refl q
+placed-good at s (Ok k) m q = go (leb (at + (k - s)) largest) refl q
   where
-    go : (t : Bool) → leb (at + (k - s)) largest ≡ t → cond t (At (at + (k - s))) (Refused 6 0) ≡ At m → (l : ℕ) × (At k ≡ At l) × (l - s ≤ largest) × (m ≡ at + (l - s)) × (m ≤ largest)
+    go : (t : Bool) → leb (at + (k - s)) largest ≡ t → cond t (Ok (at + (k - s))) (refuse 6 0) ≡ Ok m → (l : ℕ) × (◌≡◌ {A = Cursor} (Ok k) (Ok l)) × (l - s ≤ largest) × (m ≡ at + (l - s)) × (m ≤ largest)
     go true f q = let h : at + (k - s) ≤ largest = leb-true (at + (k - s)) largest f in let e : m ≡ at + (k - s) = cc in (k, refl, omega arith, e, omega arith)
     go false f q = no refl q
-placed-good at s (Refused n o) m q = go (leb (at + (o - s)) largest) q
+placed-good at s (Err r) m q = go (leb (at + (r.offset - s)) largest) q
   where
-    go : (t : Bool) → cond t (Refused n (at + (o - s))) (Refused 6 0) ≡ At m → (k : ℕ) × (Refused n o ≡ At k) × (k - s ≤ largest) × (m ≡ at + (k - s)) × (m ≤ largest)
+    go : (t : Bool) → cond {A = Cursor} t (refuse r.number (at + (r.offset - s))) (refuse 6 0) ≡ Ok m → (k : ℕ) × (◌≡◌ {A = Cursor} (Err r) (Ok k)) × (k - s ≤ largest) × (m ≡ at + (k - s)) × (m ≤ largest)
     go true q = no refl q
     go false q = no refl q
 
@@ -66,7 +65,7 @@ placed-good at s (Refused n o) m q = go (leb (at + (o - s)) largest) q
 
 -- a good piece has as many bytes as its judgement says
 abbrev pub Sound : Piece → Type 0
-Sound p = (k : ℕ) → p.judgement ≡ At k → length p.bytes ≡ k - p.start
+Sound p = (k : ℕ) → p.judgement ≡ Ok k → length p.bytes ≡ k - p.start
 
 abbrev pub AllSound : List Piece → Type 0
 AllSound [] = Unit {0}
@@ -105,7 +104,7 @@ content_sound src s n k q =
     let e : n ≡ k = r.1 in
     length_cut src s n (omega arith) ∙ omega arith
 
-section_sound : (F : List ℕ → Cursor → Cursor) (f : Local F) (src : List ℕ) (s : ℕ) → Sound (section_piece src s (F src (At s)))
+section_sound : (F : List ℕ → Cursor → Cursor) (f : Local F) (src : List ℕ) (s : ℕ) → Sound (section_piece src s (F src (Ok s)))
 section_sound F f src s k q = ap (λ (c : Cursor). length (from_to src s c)) q ∙ length_cut src s (k - s) (f.inside src s k q)
 
 value_sound : (src : List ℕ) (s n : ℕ) → AllSound (value_pieces src s n)
@@ -148,7 +147,7 @@ layout_sound b (p ∷ ps) src vs = sound_append (part_pieces b p src (get_or vs 
 
 -- WHERE JUDGING ENDS
 
-pub steps_stay : (ps : List Piece) (n o : ℕ) → steps ps (Refused n o) ≡ Refused n o
+pub steps_stay : (ps : List Piece) (n o : ℕ) → steps ps (refuse n o) ≡ refuse n o
 steps_stay [] n o = refl
 steps_stay (p ∷ ps) n o = steps_stay ps n o
 
@@ -160,35 +159,35 @@ pub bytes-append : (ps qs : List Piece) → bytes_of (ps ++ qs) ≡ bytes_of ps 
 bytes-append [] qs = refl
 bytes-append (p ∷ ps) qs = rw (bytes-append ps qs, append_assoc p.bytes (bytes_of ps) (bytes_of qs))
 
-pub steps_end : (ps : List Piece) (a e : ℕ) → AllSound ps → a ≤ largest → steps ps (At a) ≡ At e → (e ≡ a + length (bytes_of ps)) × (e ≤ largest)
+pub steps_end : (ps : List Piece) (a e : ℕ) → AllSound ps → a ≤ largest → steps ps (Ok a) ≡ Ok e → (e ≡ a + length (bytes_of ps)) × (e ≤ largest)
 steps_end [] a e s h q = let p : a ≡ e = cc in (omega arith, omega arith)
 steps_end (p ∷ ps) a e s h q =
-    let m = through (steps ps) (steps_stay ps) (step p (At a)) e q in
+    let m = through (steps ps) (steps_stay ps) (step p (Ok a)) e q in
     let k = placed-good a p.start p.judgement m.0 m.1 in
     let l : length p.bytes ≡ k.0 - p.start = s.0 k.0 k.1 in
     let r = steps_end ps m.0 e s.1 k.4 m.2 in
     let t : length (p.bytes ++ bytes_of ps) ≡ length p.bytes + length (bytes_of ps) = length-append p.bytes (bytes_of ps) in
     (omega (arith, r.0, k.3), r.1)
 
-opened-good : (v : Version) (b : Bool) (k : Option Kind) (n : ℕ) → opened v b k ≡ At n → (not (version_allows v b) ≡ false) × (not (version_has v k) ≡ false) × (n ≡ 1)
+opened-good : (v : Version) (b : Bool) (k : Option Kind) (n : ℕ) → opened v b k ≡ Ok n → (not (version_allows v b) ≡ false) × (not (version_has v k) ≡ false) × (n ≡ 1)
 unfolding opened
 opened-good v b k n q = go (not (version_allows v b)) (not (version_has v k)) q
   where
-    go : (s t : Bool) → cond s (Refused 1 0) (cond t (Refused 3 0) (At 1)) ≡ At n → (s ≡ false) × (t ≡ false) × (n ≡ 1)
+    go : (s t : Bool) → cond s (refuse 1 0) (cond t (refuse 3 0) (Ok 1)) ≡ Ok n → (s ≡ false) × (t ≡ false) × (n ≡ 1)
     go true t q = no refl q
     go false true q = no refl q
     go false false q = (refl, refl, (cc))
 
 -- a message that is judged good
-module _ (v : Version) (b : Bool) (m : Message) (src : List ℕ) (e : ℕ) (q : message_end v b m src ≡ At e) where
+module _ (v : Version) (b : Bool) (m : Message) (src : List ℕ) (e : ℕ) (q : message_end v b m src ≡ Ok e) where
   abbrev fields : List Piece
   fields = layout_pieces b (layout (kind_of_message m)) src (parts_of m)
 
   -- its version and kind are, and its fields
-  pub message-good : (not (version_allows v b) ≡ false) × (not (version_has v (some (kind_of_message m))) ≡ false) × (steps fields (At 1) ≡ At e)
+  pub message-good : (not (version_allows v b) ≡ false) × (not (version_has v (Some (kind_of_message m))) ≡ false) × (steps fields (Ok 1) ≡ Ok e)
   message-good =
-      let c = through (steps fields) (steps_stay fields) (opened v b (some (kind_of_message m))) e q in
-      let o = opened-good v b (some (kind_of_message m)) c.0 c.1 in
+      let c = through (steps fields) (steps_stay fields) (opened v b (Some (kind_of_message m))) e q in
+      let o = opened-good v b (Some (kind_of_message m)) c.0 c.1 in
       (o.0, o.1, rw o.2 at c.2)
 
   -- it ends at its length
@@ -201,7 +200,7 @@ module _ (v : Version) (b : Bool) (m : Message) (src : List ℕ) (e : ℕ) (q : 
 
 -- a piece that is judged good, and is no longer than a message
 abbrev pub Good : Piece → Type 0
-Good p = (k : ℕ) × (p.judgement ≡ At k) × (k - p.start ≤ largest)
+Good p = (k : ℕ) × (p.judgement ≡ Ok k) × (k - p.start ≤ largest)
 
 abbrev pub AllGood : List Piece → Type 0
 AllGood [] = Unit {0}
@@ -211,9 +210,9 @@ pub good-append : (ps qs : List Piece) → AllGood (ps ++ qs) → AllGood ps × 
 good-append [] qs g = (tt, g)
 good-append (p ∷ ps) qs g = let r = good-append ps qs g.1 in ((g.0, r.0), r.1)
 
-pub steps-good : (ps : List Piece) (a e : ℕ) → steps ps (At a) ≡ At e → AllGood ps
+pub steps-good : (ps : List Piece) (a e : ℕ) → steps ps (Ok a) ≡ Ok e → AllGood ps
 steps-good [] a e q = tt
 steps-good (p ∷ ps) a e q =
-    let m = through (steps ps) (steps_stay ps) (step p (At a)) e q in
+    let m = through (steps ps) (steps_stay ps) (step p (Ok a)) e q in
     let k = placed-good a p.start p.judgement m.0 m.1 in
     ((k.0, k.1, k.2), steps-good ps m.0 e m.2)

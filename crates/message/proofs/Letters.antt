@@ -3,7 +3,7 @@
 use Prim.Native.Nat.{ℕ, zero, suc, ◌<◌}
 use mathlib.Core.List.{List, [], ◌∷◌}
 use mathlib.Core.Bool.{Bool, true, false, cond, not, ◌&&◌, ◌||◌, false≢true}
-use mathlib.Core.Option.{Option, none, some}
+use Rattle.std.specs.Prelude.{Option, None, Some}
 use mathlib.Core.Path.{◌≡◌, refl, ap, sym, ◌∙◌}
 use native.Mathlib.Nat.{le_of_suc-le-suc, not-suc-le-zero}
 use native.Mathlib.Omega.{arith}
@@ -30,26 +30,26 @@ module _ {A : Type 0} where
   agree n f g e k h = sym (get_d_tabulate n f k (f 0) h) ∙ ap (λ (xs : List A). get_or xs k (f 0)) e ∙ get_d_tabulate n g k (f 0) h
 
 -- a kind is found by its number
-pub numbered-number : (k : Option Kind) → kind_numbered (kind_number k) ≡ k
+pub numbered_number : (k : Option Kind) → kind_numbered (kind_number k) ≡ k
 unfolding numbered
-numbered-number none = refl
-numbered-number (some begin) = refl
-numbered-number (some commit) = refl
-numbered-number (some origin) = refl
-numbered-number (some relation) = refl
-numbered-number (some type) = refl
-numbered-number (some insert) = refl
-numbered-number (some update) = refl
-numbered-number (some delete) = refl
-numbered-number (some truncate) = refl
-numbered-number (some message) = refl
-numbered-number (some stream_start) = refl
-numbered-number (some stream_stop) = refl
-numbered-number (some stream_commit) = refl
-numbered-number (some stream_abort) = refl
+numbered_number None = refl
+numbered_number (Some begin) = refl
+numbered_number (Some commit) = refl
+numbered_number (Some origin) = refl
+numbered_number (Some relation) = refl
+numbered_number (Some type) = refl
+numbered_number (Some insert) = refl
+numbered_number (Some update) = refl
+numbered_number (Some delete) = refl
+numbered_number (Some truncate) = refl
+numbered_number (Some message) = refl
+numbered_number (Some stream_start) = refl
+numbered_number (Some stream_stop) = refl
+numbered_number (Some stream_commit) = refl
+numbered_number (Some stream_abort) = refl
 
 -- and by its letter
-pub of_letter : (k : Kind) → kind_of (letter_of k) ≡ some k
+pub of_letter : (k : Kind) → kind_of (letter_of k) ≡ Some k
 unfolding kind_among
 of_letter begin = refl
 of_letter commit = refl
@@ -66,25 +66,25 @@ of_letter stream_stop = refl
 of_letter stream_commit = refl
 of_letter stream_abort = refl
 
-some_is : {j k : Kind} → some j ≡ some k → letter_of j ≡ letter_of k
+some_is : {j k : Kind} → Some j ≡ Some k → letter_of j ≡ letter_of k
 some_is e = cc
 
-found : (l : ℕ) (k : Kind) (ks : List Kind) → kind_among ks l ≡ some k → l ≡ letter_of k
+found : (l : ℕ) (k : Kind) (ks : List Kind) → kind_among ks l ≡ Some k → l ≡ letter_of k
 unfolding kind_among
 found l k [] e = let z : ◌≡◌ {A = ℕ} 0 1 = cc in absurd (omega arith)
 found l k (j ∷ js) e = go (eqb l (letter_of j)) refl (found l k js) e
   where
-    go : (t : Bool) → eqb l (letter_of j) ≡ t → (kind_among js l ≡ some k → l ≡ letter_of k) → cond t (some j) (kind_among js l) ≡ some k → l ≡ letter_of k
+    go : (t : Bool) → eqb l (letter_of j) ≡ t → (kind_among js l ≡ Some k → l ≡ letter_of k) → cond t (Some j) (kind_among js l) ≡ Some k → l ≡ letter_of k
     go true t later e = eqb-true l (letter_of j) t ∙ some_is e
     go false t later e = later e
 
 -- a byte that names a kind is the kind's letter
-pub letter_of_lem : (l : ℕ) (k : Kind) → kind_of l ≡ some k → l ≡ letter_of k
+pub letter_of_lem : (l : ℕ) (k : Kind) → kind_of l ≡ Some k → l ≡ letter_of k
 letter_of_lem l k e = found l k all_kinds e
 
 -- THE TABLE
 
--- the numbers of message/src/kind.rt, as `kind_of` reads them
+-- the numbers of message/src/kinds.rt, as `number_of` reads them
 unfoldable pub table : List ℕ
 table =
     0 ∷ 0 ∷ 0 ∷ 0 ∷ 0 ∷ 0 ∷ 0 ∷ 0 ∷ 0 ∷ 0 ∷ 0 ∷ 0 ∷ 0 ∷ 0 ∷ 0 ∷ 0
@@ -114,10 +114,10 @@ pub entry : (l : ℕ) → l < 256 → get_or table l 0 ≡ kind_number (kind_of 
 entry l h = ap (λ (xs : List ℕ). get_or xs l 0) by_letter ∙ get_d_tabulate 256 (λ i. kind_number (kind_of i)) l 0 h
 
 -- so it is a kind's number at the kind's letter and nowhere else
-pub names : (l : ℕ) → l < 256 → (k : Kind) → get_or table l 0 ≡ kind_number (some k) → l ≡ letter_of k
-names l h k e = letter_of_lem l k (sym (numbered-number (kind_of l)) ∙ ap kind_numbered (sym (entry l h) ∙ e) ∙ numbered-number (some k))
+pub names : (l : ℕ) → l < 256 → (k : Kind) → get_or table l 0 ≡ kind_number (Some k) → l ≡ letter_of k
+names l h k e = letter_of_lem l k (sym (numbered_number (kind_of l)) ∙ ap kind_numbered (sym (entry l h) ∙ e) ∙ numbered_number (Some k))
 
-pub named-at : (k : Kind) → get_or table (letter_of k) 0 ≡ kind_number (some k)
+pub named-at : (k : Kind) → get_or table (letter_of k) 0 ≡ kind_number (Some k)
 unfolding table
 named-at begin = refl
 named-at commit = refl

@@ -1,5 +1,4 @@
 pub mod Letters
-pub mod Versions
 pub mod Accepted
 pub mod Parts
 pub mod Local

@@ -6,9 +6,8 @@ use mathlib.Core.Path.{◌≡◌, refl, sym, ◌∙◌, ap}
 use native.Mathlib.Omega.{arith}
 use lib.ListN.{length, get_or, drop, length-drop}
 use lib.Seq.{get_or-drop, get_or-take, length-take-le, ext_get_or}
-use Rattle.wire.specs.declared.Cursor.{Cursor}
-use Rattle.wire.specs.declared.Field64.{Field64}
-use Rattle.wire.specs.declared.Cursor.TheVariants.{At, Refused}
+use Rattle.wire.specs.Cursors.{Cursor, Taken, refuse}
+use Rattle.std.specs.Prelude.{Ok, Err}
 use Rattle.wire.specs.Numbers.{be}
 use Rattle.wire.specs.Fields.{number_field, letter_field, text_field, bytes_field, value_field, until_zero, member, in_range}
 use Rattle.wire.proofs.There.{no, number_inv, number_read, number_off, letter_inv, letter_read, letter_off, text_inv, text_read, text_off, bytes_inv, bytes_read, bytes_off, until_before, until_zero_lem, until_is}
@@ -56,26 +55,26 @@ module _ {xs ys : List ℕ} {a b : ℕ} where
 
 -- reading stays refused, goes ahead, ends inside, and gives the same elsewhere
 pub record Local (F : List ℕ → Cursor → Cursor) : Type 0 where
-  pub stays : (xs : List ℕ) (n o : ℕ) → F xs (Refused n o) ≡ Refused n o
-  pub ahead : (xs : List ℕ) (a e : ℕ) → F xs (At a) ≡ At e → a ≤ e
-  pub late : (xs : List ℕ) (a n o : ℕ) → F xs (At a) ≡ Refused n o → a ≤ o
-  pub inside : (xs : List ℕ) (a e : ℕ) → F xs (At a) ≡ At e → e - a ≤ length xs - a
-  pub moves : (xs ys : List ℕ) (a b e : ℕ) → F xs (At a) ≡ At e → Agree xs a ys b (e - a) → F ys (At b) ≡ At (b + (e - a))
+  pub stays : (xs : List ℕ) (n o : ℕ) → F xs (refuse n o) ≡ refuse n o
+  pub ahead : (xs : List ℕ) (a e : ℕ) → F xs (Ok a) ≡ Ok e → a ≤ e
+  pub late : (xs : List ℕ) (a n o : ℕ) → F xs (Ok a) ≡ refuse n o → a ≤ o
+  pub inside : (xs : List ℕ) (a e : ℕ) → F xs (Ok a) ≡ Ok e → e - a ≤ length xs - a
+  pub moves : (xs ys : List ℕ) (a b e : ℕ) → F xs (Ok a) ≡ Ok e → Agree xs a ys b (e - a) → F ys (Ok b) ≡ Ok (b + (e - a))
 
 -- what gets to a place gets there through a place
-module _ (G : Cursor → Cursor) (stays : (n o : ℕ) → G (Refused n o) ≡ Refused n o) where
-  pub through : (c : Cursor) (e : ℕ) → G c ≡ At e → (m : ℕ) × (c ≡ At m) × (G (At m) ≡ At e)
+module _ (G : Cursor → Cursor) (stays : (n o : ℕ) → G (refuse n o) ≡ refuse n o) where
+  pub through : (c : Cursor) (e : ℕ) → G c ≡ Ok e → (m : ℕ) × (c ≡ Ok m) × (G (Ok m) ≡ Ok e)
   through c e q = let r = reached G stays c q in (r.0, r.1, rw r.1 at q)
 
 -- what goes on from a cursor is refused behind where the cursor came from
 late_by :
-    (H : Cursor → Cursor) → ((n o : ℕ) → H (Refused n o) ≡ Refused n o) → ((m n o : ℕ) → H (At m) ≡ Refused n o → m ≤ o)
-    → (a : ℕ) (c : Cursor) → ((m : ℕ) → c ≡ At m → a ≤ m) → ((n o : ℕ) → c ≡ Refused n o → a ≤ o) → (n o : ℕ) → H c ≡ Refused n o → a ≤ o
-late_by H stays late a (At m) ahead off n o q = omega (arith, ahead m refl, late m n o q)
-late_by H stays late a (Refused k i) ahead off n o q =
-    let s : H (Refused k i) ≡ Refused k i = stays k i in
-    let e : i ≡ o = cc in
-    omega (arith, off k i refl)
+    (H : Cursor → Cursor) → ((n o : ℕ) → H (refuse n o) ≡ refuse n o) → ((m n o : ℕ) → H (Ok m) ≡ refuse n o → m ≤ o)
+    → (a : ℕ) (c : Cursor) → ((m : ℕ) → c ≡ Ok m → a ≤ m) → ((n o : ℕ) → c ≡ refuse n o → a ≤ o) → (n o : ℕ) → H c ≡ refuse n o → a ≤ o
+late_by H stays late a (Ok m) ahead off n o q = omega (arith, ahead m refl, late m n o q)
+late_by H stays late a (Err r) ahead off n o q =
+    let s : H (Err r) ≡ Err r = stays r.number r.offset in
+    let e : r.offset ≡ o = cc in
+    omega (arith, off r.number r.offset refl)
 
 pub local_none : Local (λ xs c. c)
 local_none =
@@ -90,33 +89,33 @@ local_none =
 -- a field, and what its value says to read behind it
 module _
     (value : List ℕ → Cursor → ℕ) (next : List ℕ → Cursor → Cursor) (f : Local next)
-    (same : (xs ys : List ℕ) (a b e : ℕ) → next xs (At a) ≡ At e → Agree xs a ys b (e - a) → value ys (At b) ≡ value xs (At a))
+    (same : (xs ys : List ℕ) (a b e : ℕ) → next xs (Ok a) ≡ Ok e → Agree xs a ys b (e - a) → value ys (Ok b) ≡ value xs (Ok a))
     (G : ℕ → List ℕ → Cursor → Cursor) (g : (v : ℕ) → Local (G v))
   where
     local_by : Local (λ xs c. G (value xs c) xs (next xs c))
     local_by =
         record {
-          stays = λ xs n o. let v = value xs (Refused n o) in ap (G v xs) (f.stays xs n o) ∙ (g v).stays xs n o;
+          stays = λ xs n o. let v = value xs (refuse n o) in ap (G v xs) (f.stays xs n o) ∙ (g v).stays xs n o;
           ahead = λ xs a e q.
-              let v = value xs (At a) in
-              let m = through (G v xs) ((g v).stays xs) (next xs (At a)) e q in
+              let v = value xs (Ok a) in
+              let m = through (G v xs) ((g v).stays xs) (next xs (Ok a)) e q in
               omega (arith, f.ahead xs a m.0 m.1, (g v).ahead xs m.0 e m.2);
           late = λ xs a n o q.
-              let v = value xs (At a) in
-              late_by (G v xs) ((g v).stays xs) ((g v).late xs) a (next xs (At a)) (f.ahead xs a) (f.late xs a) n o q;
+              let v = value xs (Ok a) in
+              late_by (G v xs) ((g v).stays xs) ((g v).late xs) a (next xs (Ok a)) (f.ahead xs a) (f.late xs a) n o q;
           inside = λ xs a e q.
-              let v = value xs (At a) in
-              let m = through (G v xs) ((g v).stays xs) (next xs (At a)) e q in
+              let v = value xs (Ok a) in
+              let m = through (G v xs) ((g v).stays xs) (next xs (Ok a)) e q in
               omega (arith, f.ahead xs a m.0 m.1, (g v).ahead xs m.0 e m.2, f.inside xs a m.0 m.1, (g v).inside xs m.0 e m.2);
           moves = λ xs ys a b e q h.
-              let v = value xs (At a) in
-              let m = through (G v xs) ((g v).stays xs) (next xs (At a)) e q in
+              let v = value xs (Ok a) in
+              let m = through (G v xs) ((g v).stays xs) (next xs (Ok a)) e q in
               let p : a ≤ m.0 = f.ahead xs a m.0 m.1 in
               let r : m.0 ≤ e = (g v).ahead xs m.0 e m.2 in
               let s : b + (m.0 - a) + (e - m.0) ≡ b + (e - a) = omega arith in
               let first = fewer (e - a) (m.0 - a) (omega arith) h in
               let behind = beyond (e - a) (m.0 - a) (e - m.0) m.0 (b + (m.0 - a)) (omega arith) (omega arith) refl h in
-              rw (same xs ys a b m.0 m.1 first, f.moves xs ys a b m.0 m.1 first) ((g v).moves xs ys m.0 (b + (m.0 - a)) e m.2 behind ∙ ap At s);
+              rw (same xs ys a b m.0 m.1 first, f.moves xs ys a b m.0 m.1 first) ((g v).moves xs ys m.0 (b + (m.0 - a)) e m.2 behind ∙ ap Ok s);
         }
 
 pub local_then : (F G : List ℕ → Cursor → Cursor) → Local F → Local G → Local (λ xs c. G xs (F xs c))
@@ -192,8 +191,8 @@ bytes_local n =
 
 -- a number or a letter read elsewhere is the same
 number_same :
-    (w low high n : ℕ) (xs ys : List ℕ) (a b e : ℕ) → (number_field w low high n xs (At a)).next ≡ At e → Agree xs a ys b (e - a)
-    → (number_field w low high n ys (At b)).value ≡ (number_field w low high n xs (At a)).value
+    (w low high n : ℕ) (xs ys : List ℕ) (a b e : ℕ) → (number_field w low high n xs (Ok a)).next ≡ Ok e → Agree xs a ys b (e - a)
+    → (number_field w low high n ys (Ok b)).value ≡ (number_field w low high n xs (Ok a)).value
 number_same w low high n xs ys a b e q g =
     let i = number_inv w low high n xs a e q in
     let z : e - a ≡ w = omega (arith, i.2) in
@@ -201,8 +200,8 @@ number_same w low high n xs ys a b e q g =
     rw (number_read w low high n ys b h.there (ap (in_range low high) (be-same w h) ∙ i.1), number_read w low high n xs a i.0 i.1) (be-same w h)
 
 letter-same :
-    (set xs ys : List ℕ) (a b e : ℕ) → (letter_field set xs (At a)).next ≡ At e → Agree xs a ys b (e - a)
-    → (letter_field set ys (At b)).value ≡ (letter_field set xs (At a)).value
+    (set xs ys : List ℕ) (a b e : ℕ) → (letter_field set xs (Ok a)).next ≡ Ok e → Agree xs a ys b (e - a)
+    → (letter_field set ys (Ok b)).value ≡ (letter_field set xs (Ok a)).value
 letter-same set xs ys a b e q g =
     let i = letter_inv set xs a e q in
     let z : e - a ≡ 1 = omega (arith, i.2) in
@@ -256,18 +255,18 @@ tuple_local =
 
 -- a refusal passes through every part of a layout
 module _ (b : Bool) (xs : List ℕ) where
-  part_stays : (p : Part) (n o : ℕ) → (read_part b p xs (Refused n o)).next ≡ Refused n o
+  part_stays : (p : Part) (n o : ℕ) → (read_part b p xs (refuse n o)).next ≡ refuse n o
   unfolding number_field letter_field xid_field optional
   part_stays (one f) n o = (field_local f).stays xs n o
   part_stays block_xid n o = go b
     where
-      go : (t : Bool) → (cond {A = Field64} t (record { value = 0; next = Refused n o }) (record { value = 0; next = Refused n o })).next ≡ Refused n o
+      go : (t : Bool) → (cond {A = Taken ℕ} t (record { value = 0; next = refuse n o }) (record { value = 0; next = refuse n o })).next ≡ refuse n o
       go true = refl
       go false = refl
   part_stays (groups w low high between fs) n o = ap (groups_end fs xs 0) ((group_local between).stays xs n o) ∙ (groups_local fs 0).stays xs n o
   part_stays tuple n o = tuple_local.stays xs n o
   part_stays (optional_tuple set) n o = refl
 
-  pub fields_stay : (ps : List Part) (n o : ℕ) → (read_fields b ps xs (Refused n o)).next ≡ Refused n o
+  pub fields_stay : (ps : List Part) (n o : ℕ) → (read_fields b ps xs (refuse n o)).next ≡ refuse n o
   fields_stay [] n o = refl
   fields_stay (p ∷ ps) n o = ap (λ (c : Cursor). (read_fields b ps xs c).next) (part_stays p n o) ∙ fields_stay ps n o

@@ -9,8 +9,8 @@ use lib.Dec.{eqb}
 use mir.Syntax.{w64}
 use mir.Val.{to_z, of_z, SFits}
 use mir.ValLaws.{of_z-to_z, to_z-of_z}
-use Rattle.wire.specs.declared.Cursor.{Cursor}
-use Rattle.wire.specs.declared.Cursor.TheVariants.{At}
+use Rattle.wire.specs.Cursors.{Cursor}
+use Rattle.std.specs.Prelude.{Ok}
 use Rattle.wire.specs.Numbers.{most64}
 use Rattle.wire.specs.Fields.{number_field, letter_field, member, position_of}
 use Rattle.wire.proofs.Fields.{value_le}
@@ -75,7 +75,7 @@ old_back xs c = go (letter_field key_or_old xs c).value (letter_field key_or_old
         test true e = refl
         test false e = letters_back l (position_of d) (h (eqb-false l 0 e))
 
-pub parts_back : (k : Kind) (b : Bool) (xs : List ℕ) → (let v = (read_fields b (layout k) xs (At 1)).parts in parts_of (message_of k v) ≡ v)
+pub parts_back : (k : Kind) (b : Bool) (xs : List ℕ) → (let v = (read_fields b (layout k) xs (Ok 1)).parts in parts_of (message_of k v) ≡ v)
 parts_back begin b xs = rw time_back
 parts_back commit b xs = rw time_back
 parts_back origin b xs = refl

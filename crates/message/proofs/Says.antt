@@ -5,7 +5,7 @@ use mathlib.Core.Bool.{cond}
 use mathlib.Core.Path.{◌≡◌, refl}
 use lib.ListN.{get_or, take, drop}
 use lib.Dec.{eqb}
-use Rattle.wire.specs.declared.Cursor.TheVariants.{At}
+use Rattle.std.specs.Prelude.{Ok}
 use Rattle.message.specs.declared.OldTuple.{OldTuple}
 use Rattle.message.specs.declared.OldTuple.TheVariants.{Nothing, Key, Full}
 use Rattle.message.specs.declared.Message.{Message}
@@ -33,9 +33,9 @@ part_says (one f) xs v = field_says f xs v
 part_says block_xid xs v = num (get_or v 0 0) ∷ []
 part_says (groups w low high between fs) xs v =
     let start = get_or (drop 1 v) (arities between) 0 in
-    num (get_or v 0 0) ∷ group_says between xs (drop 1 v) ++ (bytes (from_to xs start (groups_end fs xs (get_or v 0 0) (At start))) ∷ [])
-part_says tuple xs v = bytes (from_to xs (get_or v 0 0) (tuple_end xs (At (get_or v 0 0)))) ∷ []
-part_says (optional_tuple set) xs v = num (get_or v 0 0) ∷ cond (eqb (get_or v 0 0) 0) [] (bytes (from_to xs (get_or v 1 0) (tuple_end xs (At (get_or v 1 0)))) ∷ [])
+    num (get_or v 0 0) ∷ group_says between xs (drop 1 v) ++ (bytes (from_to xs start (groups_end fs xs (get_or v 0 0) (Ok start))) ∷ [])
+part_says tuple xs v = bytes (from_to xs (get_or v 0 0) (tuple_end xs (Ok (get_or v 0 0)))) ∷ []
+part_says (optional_tuple set) xs v = num (get_or v 0 0) ∷ cond (eqb (get_or v 0 0) 0) [] (bytes (from_to xs (get_or v 1 0) (tuple_end xs (Ok (get_or v 1 0)))) ∷ [])
 
 abbrev pub layout_says : List Part → List ℕ → List (List ℕ) → List Content
 layout_says [] xs vs = []

@@ -5,14 +5,13 @@ use mathlib.Core.List.{List, [], ◌∷◌, ◌++◌, append_assoc, append-nil}
 use mathlib.Core.Bool.{Bool, true, false, not, cond}
 use mathlib.Core.Path.{◌≡◌, refl, sym, ◌∙◌, ap}
 use mathlib.Core.Logic.{◌⊎◌, inl, inr}
-use mathlib.Core.Option.{some}
+use Rattle.std.specs.Prelude.{Some, Ok, Err}
 use native.Mathlib.Omega.{arith}
 use borrow.Author.Tests.{le-leb, lt-leb, leb-true, leb-false}
 use lib.ListN.{length, get_or, take, drop, length-append}
 use lib.Seq.{take-add, drop-drop}
 use lib.Dec.{eqb, leb}
-use Rattle.wire.specs.declared.Cursor.{Cursor}
-use Rattle.wire.specs.declared.Cursor.TheVariants.{At, Refused}
+use Rattle.wire.specs.Cursors.{Cursor, refuse}
 use Rattle.wire.specs.Numbers.{most32}
 use Rattle.wire.specs.Fields.{in_range, member, number_field, letter_field, text_field, bytes_field, value_field}
 use Rattle.wire.proofs.There.{number_off, letter_off, text_off, bytes_off}
@@ -33,7 +32,7 @@ use Rattle.message.proofs.Judged.{length_digits, length_cut, AllSound, steps_sta
 -- a way of writing gives what pieces give
 pub record Lays (G : Writing → Writing) (ps : List Piece) : Type 0 where
   pub stays : (n o : ℕ) → G (refused n o) ≡ refused n o
-  pub lays : (bs : List ℕ) → length bs ≤ largest → G (bytes bs) ≡ outcome (steps ps (At (length bs))) (bs ++ bytes_of ps)
+  pub lays : (bs : List ℕ) → length bs ≤ largest → G (bytes bs) ≡ outcome (steps ps (Ok (length bs))) (bs ++ bytes_of ps)
 
 lays_none : Lays (λ d. d) []
 lays_none = record { stays = λ n o. refl; lays = λ bs h. ap bytes (sym (append-nil bs)) }
@@ -42,23 +41,23 @@ lays_then : (G H : Writing → Writing) (ps qs : List Piece) → AllSound ps →
 lays_then G H ps qs sound g h =
     record {
       stays = λ n o. ap H (g.stays n o) ∙ h.stays n o;
-      lays = λ bs l. go bs l (steps ps (At (length bs))) refl;
+      lays = λ bs l. go bs l (steps ps (Ok (length bs))) refl;
     }
   where
-    go : (bs : List ℕ) → length bs ≤ largest → (c : Cursor) → steps ps (At (length bs)) ≡ c → H (G (bytes bs)) ≡ outcome (steps (ps ++ qs) (At (length bs))) (bs ++ bytes_of (ps ++ qs))
-    go bs l (At e) q =
+    go : (bs : List ℕ) → length bs ≤ largest → (c : Cursor) → steps ps (Ok (length bs)) ≡ c → H (G (bytes bs)) ≡ outcome (steps (ps ++ qs) (Ok (length bs))) (bs ++ bytes_of (ps ++ qs))
+    go bs l (Ok e) q =
         let s = steps_end ps (length bs) e sound l q in
         let n : length (bs ++ bytes_of ps) ≡ e = length-append bs (bytes_of ps) ∙ sym s.0 in
         let k : length (bs ++ bytes_of ps) ≤ largest = omega (arith, s.1) in
         let first : G (bytes bs) ≡ bytes (bs ++ bytes_of ps) = g.lays bs l ∙ rw q in
         ap H first ∙ h.lays (bs ++ bytes_of ps) k
-        ∙ rw (n, steps-append ps qs (At (length bs)), q, bytes-append ps qs, append_assoc bs (bytes_of ps) (bytes_of qs))
-    go bs l (Refused n o) q =
-        let first : G (bytes bs) ≡ refused n o = g.lays bs l ∙ rw q in
-        ap H first ∙ h.stays n o ∙ rw (steps-append ps qs (At (length bs)), q, steps_stay qs n o)
+        ∙ rw (n, steps-append ps qs (Ok (length bs)), q, bytes-append ps qs, append_assoc bs (bytes_of ps) (bytes_of qs))
+    go bs l (Err r) q =
+        let first : G (bytes bs) ≡ refused r.number r.offset = g.lays bs l ∙ rw q in
+        ap H first ∙ h.stays r.number r.offset ∙ rw (steps-append ps qs (Ok (length bs)), q, steps_stay qs r.number r.offset)
 
 module _ (field : List ℕ) (k : ℕ) (size : length field ≡ k) where
-  good_lays : Lays (good field) (piece field (At k) ∷ [])
+  good_lays : Lays (good field) (piece field (Ok k) ∷ [])
   unfolding placed
   good_lays =
       record {
@@ -68,11 +67,11 @@ module _ (field : List ℕ) (k : ℕ) (size : length field ≡ k) where
             rw (l, append-nil field) (go bs (leb (length bs + (k - 0)) largest));
       }
     where
-      go : (bs : List ℕ) (t : Bool) → cond t (bytes (bs ++ field)) (refused 6 0) ≡ outcome (cond t (At (length bs + (k - 0))) (Refused 6 0)) (bs ++ field)
+      go : (bs : List ℕ) (t : Bool) → cond t (bytes (bs ++ field)) (refused 6 0) ≡ outcome (cond t (Ok (length bs + (k - 0))) (refuse 6 0)) (bs ++ field)
       go bs true = refl
       go bs false = refl
 
-bad_lays : (field : List ℕ) (n : ℕ) → Lays (bad n) (piece field (Refused n 0) ∷ [])
+bad_lays : (field : List ℕ) (n : ℕ) → Lays (bad n) (piece field (refuse n 0) ∷ [])
 unfolding placed
 bad_lays field n =
     record {
@@ -100,7 +99,7 @@ module _ (src : List ℕ) (s n : ℕ) where
     where
       go :
           (t : Bool) → leb (s + n) (length src) ≡ t → (m : Bool)
-          → Lays (λ d. cond t (cond m (bad 4 d) (good (cut src s n ++ (0 ∷ [])) d)) (bad 2 d)) (piece (cut src s n ++ (0 ∷ [])) (cond t (cond m (Refused 4 0) (At (n + 1))) (Refused 2 0)) ∷ [])
+          → Lays (λ d. cond t (cond m (bad 4 d) (good (cut src s n ++ (0 ∷ [])) d)) (bad 2 d)) (piece (cut src s n ++ (0 ∷ [])) (cond t (cond m (refuse 4 0) (Ok (n + 1))) (refuse 2 0)) ∷ [])
       go true e true = bad_lays (cut src s n ++ (0 ∷ [])) 4
       go true e false =
           let l : s + n ≤ length src = leb-true (s + n) (length src) e in
@@ -130,8 +129,8 @@ xid_lays false v = go (eqb v 0)
 
 -- what is written after bs where reading from s got to a cursor
 abbrev Shown : List ℕ → ℕ → List ℕ → Cursor → Writing
-Shown src s bs (At e) = so_far (bs ++ cut src s (e - s))
-Shown src s bs (Refused n o) = cond (leb (length bs + (o - s)) largest) (refused n (length bs + (o - s))) (refused 6 0)
+Shown src s bs (Ok e) = so_far (bs ++ cut src s (e - s))
+Shown src s bs (Err r) = cond (leb (length bs + (r.offset - s)) largest) (refused r.number (length bs + (r.offset - s))) (refused 6 0)
 
 -- copying keeps step with reading: both stand at one place, or copying has refused as reading on will show
 abbrev On : List ℕ → ℕ → List ℕ → ℕ → Type 0
@@ -140,7 +139,7 @@ On src s bs e = (s ≤ e) × (e - s ≤ length src - s) × (length bs + (e - s) 
 pub record Standing (src : List ℕ) (s : ℕ) (bs : List ℕ) (c : Cursor) (d : Copy) : Type 0 where
   pub place : ℕ
   pub on : On src s bs place
-  pub reads : c ≡ At place
+  pub reads : c ≡ Ok place
   pub copies : d ≡ copy place (bytes (bs ++ cut src s (place - s)))
 
 pub record Stopped (src : List ℕ) (s : ℕ) (bs : List ℕ) (c : Cursor) (d : Copy) : Type 0 where
@@ -155,7 +154,7 @@ InStep src s bs c d = Standing src s bs c d ⊎ Stopped src s bs c d
 pub record Follows (F : List ℕ → Cursor → Cursor) (G : List ℕ → Copy → Copy) : Type 0 where
   pub local : Local F
   pub keeps : (src : List ℕ) (d : Copy) (n o : ℕ) → d.to ≡ refused n o → (G src d).to ≡ refused n o
-  pub goes : (src : List ℕ) (s : ℕ) (bs : List ℕ) (e : ℕ) → On src s bs e → InStep src s bs (F src (At e)) (G src (copy e (bytes (bs ++ cut src s (e - s)))))
+  pub goes : (src : List ℕ) (s : ℕ) (bs : List ℕ) (e : ℕ) → On src s bs e → InStep src s bs (F src (Ok e)) (G src (copy e (bytes (bs ++ cut src s (e - s)))))
 
 follows_none : Follows (λ src c. c) (λ src d. d)
 follows_none = record { local = local_none; keeps = λ src d n o q. q; goes = λ src s bs e h. inl (record { place = e; on = h; reads = refl; copies = refl }) }
@@ -165,7 +164,7 @@ follows_then F H G I f h =
     record {
       local = local_then F H f.local h.local;
       keeps = λ src d n o q. h.keeps src (G src d) n o (f.keeps src d n o q);
-      goes = λ src s bs e k. go src s bs (F src (At e)) (G src (copy e (bytes (bs ++ cut src s (e - s))))) (f.goes src s bs e k);
+      goes = λ src s bs e k. go src s bs (F src (Ok e)) (G src (copy e (bytes (bs ++ cut src s (e - s))))) (f.goes src s bs e k);
     }
   where
     go : (src : List ℕ) (s : ℕ) (bs : List ℕ) (c : Cursor) (d : Copy) → InStep src s bs c d → InStep src s bs (H src c) (I src d)
@@ -174,8 +173,8 @@ follows_then F H G I f h =
         inr (record { n = r.n; o = r.o; copies = h.keeps src d r.n r.o r.copies; reads = λ K k. r.reads (λ xs c. K xs (H xs c)) (local_then H K h.local k) })
 
 copied-keeps : (src : List ℕ) (c : Cursor) (d : Copy) (n o : ℕ) → d.to ≡ refused n o → (copied src c d).to ≡ refused n o
-copied-keeps src (At e) d n o q = rw q
-copied-keeps src (Refused m k) d n o q = rw q
+copied-keeps src (Ok e) d n o q = rw q
+copied-keeps src (Err r) d n o q = rw q
 
 -- a part of the source and the part behind it
 joined : (src : List ℕ) (s m e : ℕ) → s ≤ m → m ≤ e → cut src s (m - s) ++ cut src m (e - m) ≡ cut src s (e - s)
@@ -185,34 +184,34 @@ joined src s m e h k =
     rw (i, take-add (m - s) (e - m) (drop s src), drop-drop, j)
 
 -- reading on from past the largest message shows that it is too long
-past : (src : List ℕ) (s : ℕ) (bs : List ℕ) (m : ℕ) → s ≤ m → m - s ≤ length src - s → largest < length bs + (m - s) → (F : List ℕ → Cursor → Cursor) → Local F → Shown src s bs (F src (At m)) ≡ refused 6 0
-past src s bs m h i l F f = go (F src (At m)) refl
+past : (src : List ℕ) (s : ℕ) (bs : List ℕ) (m : ℕ) → s ≤ m → m - s ≤ length src - s → largest < length bs + (m - s) → (F : List ℕ → Cursor → Cursor) → Local F → Shown src s bs (F src (Ok m)) ≡ refused 6 0
+past src s bs m h i l F f = go (F src (Ok m)) refl
   where
-    go : (c : Cursor) → F src (At m) ≡ c → Shown src s bs c ≡ refused 6 0
-    go (At e) q =
+    go : (c : Cursor) → F src (Ok m) ≡ c → Shown src s bs c ≡ refused 6 0
+    go (Ok e) q =
         let k : length (cut src s (e - s)) ≡ e - s = length_cut src s (e - s) (omega (arith, f.ahead src m e q, f.inside src m e q)) in
         let g : largest < length (bs ++ cut src s (e - s)) = omega (arith, f.ahead src m e q, length-append bs (cut src s (e - s))) in
         rw (lt-leb (length (bs ++ cut src s (e - s))) largest g)
-    go (Refused n o) q = let g : largest < length bs + (o - s) = omega (arith, f.late src m n o q) in rw (lt-leb (length bs + (o - s)) largest g)
+    go (Err r) q = let g : largest < length bs + (r.offset - s) = omega (arith, f.late src m r.number r.offset q) in rw (lt-leb (length bs + (r.offset - s)) largest g)
 
 -- a field that is read, and what goes on from its value
 module _
-    (value : List ℕ → Cursor → ℕ) (next : List ℕ → Cursor → Cursor) (local : Local next) (off : (xs : List ℕ) (a n o : ℕ) → next xs (At a) ≡ Refused n o → o ≡ a)
+    (value : List ℕ → Cursor → ℕ) (next : List ℕ → Cursor → Cursor) (local : Local next) (off : (xs : List ℕ) (a n o : ℕ) → next xs (Ok a) ≡ refuse n o → o ≡ a)
     (F : ℕ → List ℕ → Cursor → Cursor) (G : ℕ → List ℕ → Copy → Copy) (follows : (v : ℕ) → Follows (F v) (G v))
   where
-    follows_by : Local (λ xs c. F (value xs c) xs (next xs c)) → Follows (λ xs c. F (value xs c) xs (next xs c)) (λ xs d. G (value xs (At d.from)) xs (copied xs (next xs (At d.from)) d))
+    follows_by : Local (λ xs c. F (value xs c) xs (next xs c)) → Follows (λ xs c. F (value xs c) xs (next xs c)) (λ xs d. G (value xs (Ok d.from)) xs (copied xs (next xs (Ok d.from)) d))
     follows_by whole =
         record {
           local = whole;
           keeps = λ src d n o q.
-              (follows (value src (At d.from))).keeps src (copied src (next src (At d.from)) d) n o (copied-keeps src (next src (At d.from)) d n o q);
-          goes = λ src s bs e h. go src s bs e h (value src (At e)) (next src (At e)) refl;
+              (follows (value src (Ok d.from))).keeps src (copied src (next src (Ok d.from)) d) n o (copied-keeps src (next src (Ok d.from)) d n o q);
+          goes = λ src s bs e h. go src s bs e h (value src (Ok e)) (next src (Ok e)) refl;
         }
       where
         go :
-            (src : List ℕ) (s : ℕ) (bs : List ℕ) (e : ℕ) → On src s bs e → (v : ℕ) (c : Cursor) → next src (At e) ≡ c
+            (src : List ℕ) (s : ℕ) (bs : List ℕ) (e : ℕ) → On src s bs e → (v : ℕ) (c : Cursor) → next src (Ok e) ≡ c
             → InStep src s bs (F v src c) (G v src (copied src c (copy e (bytes (bs ++ cut src s (e - s))))))
-        go src s bs e h v (At m) q =
+        go src s bs e h v (Ok m) q =
             let a : e ≤ m = local.ahead src e m q in
             let i : m - s ≤ length src - s = omega (arith, h.0, h.1, local.inside src e m q) in
             let k : length (cut src s (m - s)) ≡ m - s = length_cut src s (m - s) i in
@@ -221,7 +220,7 @@ module _
           where
             test :
                 (m : ℕ) → e ≤ m → m - s ≤ length src - s → (t : Bool) → leb (length bs + (m - s)) largest ≡ t
-                → InStep src s bs (F v src (At m)) (G v src (copy m (cond t (bytes (bs ++ cut src s (m - s))) (refused 6 0))))
+                → InStep src s bs (F v src (Ok m)) (G v src (copy m (cond t (bytes (bs ++ cut src s (m - s))) (refused 6 0))))
             test m a i true g = (follows v).goes src s bs m (omega (arith, h.0), i, leb-true (length bs + (m - s)) largest g)
             test m a i false g =
                 inr (record {
@@ -230,16 +229,16 @@ module _
                   copies = (follows v).keeps src (copy m (refused 6 0)) 6 0 refl;
                   reads = λ H l. past src s bs m (omega (arith, h.0)) i (leb-false (length bs + (m - s)) largest g) (λ xs c. H xs (F v xs c)) (local_then (F v) H (follows v).local l);
                 })
-        go src s bs e h v (Refused n o) q =
-            let p : o ≡ e = off src e n o q in
+        go src s bs e h v (Err r) q =
+            let p : r.offset ≡ e = off src e r.number r.offset q in
             let k : length (cut src s (e - s)) ≡ e - s = length_cut src s (e - s) h.1 in
-            let l : length (bs ++ cut src s (e - s)) ≡ length bs + (o - s) = length-append bs (cut src s (e - s)) ∙ omega arith in
-            let m : length bs + (o - s) ≤ largest = omega (arith, h.2) in
+            let l : length (bs ++ cut src s (e - s)) ≡ length bs + (r.offset - s) = length-append bs (cut src s (e - s)) ∙ omega arith in
+            let m : length bs + (r.offset - s) ≤ largest = omega (arith, h.2) in
             inr (record {
-              n = n;
-              o = length bs + (o - s);
-              copies = (follows v).keeps src (copy e (refused n (length (bs ++ cut src s (e - s))))) n (length bs + (o - s)) (ap (refused n) l);
-              reads = λ H l. ap (λ (c : Cursor). Shown src s bs (H src c)) ((follows v).local.stays src n o) ∙ ap (Shown src s bs) (l.stays src n o) ∙ rw (le-leb (length bs + (o - s)) largest m);
+              n = r.number;
+              o = length bs + (r.offset - s);
+              copies = (follows v).keeps src (copy e (refused r.number (length (bs ++ cut src s (e - s))))) r.number (length bs + (r.offset - s)) (ap (refused r.number) l);
+              reads = λ H l. ap (λ (c : Cursor). Shown src s bs (H src c)) ((follows v).local.stays src r.number r.offset) ∙ ap (Shown src s bs) (l.stays src r.number r.offset) ∙ rw (le-leb (length bs + (r.offset - s)) largest m);
             })
 
 -- THE FIELDS OF A LAYOUT
@@ -258,7 +257,7 @@ text_follows : Follows (λ xs c. (text_field xs c).next) (copy_field text)
 text_follows =
     follows_by (λ xs c. 0) (λ xs c. (text_field xs c).next) text_local text_off (λ v xs c. c) (λ v xs d. d) (λ v. follows_none) text_local
 
-bytes_follows : (n : ℕ) → Follows (λ xs c. (bytes_field n xs c).next) (λ xs d. copied xs (bytes_field n xs (At d.from)).next d)
+bytes_follows : (n : ℕ) → Follows (λ xs c. (bytes_field n xs c).next) (λ xs d. copied xs (bytes_field n xs (Ok d.from)).next d)
 bytes_follows n =
     follows_by (λ xs c. 0) (λ xs c. (bytes_field n xs c).next) (bytes_local n) (λ xs a. bytes_off xs a n) (λ v xs c. c) (λ v xs d. d) (λ v. follows_none) (bytes_local n)
 
@@ -266,7 +265,7 @@ value_follows : Follows (λ xs c. (value_field xs c).next) copy_value
 unfolding value_field
 value_follows =
     follows_by (λ xs c. (number_field 4 0 0x7FFFFFFF 4 xs c).value) (λ xs c. (number_field 4 0 0x7FFFFFFF 4 xs c).next) (number_local 4 0 0x7FFFFFFF 4) (number_off 4 0 0x7FFFFFFF 4)
-    (λ n xs c. (bytes_field n xs c).next) (λ n xs d. copied xs (bytes_field n xs (At d.from)).next d) bytes_follows value_local
+    (λ n xs c. (bytes_field n xs c).next) (λ n xs d. copied xs (bytes_field n xs (Ok d.from)).next d) bytes_follows value_local
 
 column_follows : Follows column_end copy_column
 unfolding column_end
@@ -302,7 +301,7 @@ tuple_follows =
     (λ n xs c. groups_end (column ∷ []) xs n c) (λ n xs d. copy_groups n (column ∷ []) xs d) (groups_follow (column ∷ [])) tuple_local
 
 -- what lies in the source is one piece
-section_lays : (F : List ℕ → Cursor → Cursor) (G : List ℕ → Copy → Copy) → Follows F G → (src : List ℕ) (s : ℕ) → Lays (λ d. (G src (copy s d)).to) (section_piece src s (F src (At s)) ∷ [])
+section_lays : (F : List ℕ → Cursor → Cursor) (G : List ℕ → Copy → Copy) → Follows F G → (src : List ℕ) (s : ℕ) → Lays (λ d. (G src (copy s d)).to) (section_piece src s (F src (Ok s)) ∷ [])
 unfolding placed
 section_lays F G f src s =
     record {
@@ -311,7 +310,7 @@ section_lays F G f src s =
           let z : s - s ≡ 0 = omega arith in
           let e : bs ++ cut src s (s - s) ≡ bs = rw (z, append-nil bs) in
           let i : On src s bs s = (omega arith, omega arith, omega arith) in
-          shown bs (F src (At s)) (G src (copy s (bytes bs))) (rw e at (f.goes src s bs s i)) ∙ same bs (F src (At s)) refl;
+          shown bs (F src (Ok s)) (G src (copy s (bytes bs))) (rw e at (f.goes src s bs s i)) ∙ same bs (F src (Ok s)) refl;
     }
   where
     shown : (bs : List ℕ) (c : Cursor) (d : Copy) → InStep src s bs c d → d.to ≡ Shown src s bs c
@@ -321,18 +320,18 @@ section_lays F G f src s =
         rw (r.copies, r.reads, le-leb (length (bs ++ cut src s (r.place - s))) largest l)
     shown bs c d (inr r) = r.copies ∙ sym (r.reads (λ xs c. c) local_none)
 
-    same : (bs : List ℕ) (c : Cursor) → F src (At s) ≡ c → Shown src s bs c ≡ outcome (placed (length bs) s c) (bs ++ (from_to src s c ++ []))
-    same bs (At e) q =
+    same : (bs : List ℕ) (c : Cursor) → F src (Ok s) ≡ c → Shown src s bs c ≡ outcome (placed (length bs) s c) (bs ++ (from_to src s c ++ []))
+    same bs (Ok e) q =
         let k : length (cut src s (e - s)) ≡ e - s = length_cut src s (e - s) (f.local.inside src s e q) in
         let l : length (bs ++ cut src s (e - s)) ≡ length bs + (e - s) = length-append bs (cut src s (e - s)) ∙ omega arith in
         rw (l, append-nil (cut src s (e - s))) (go (leb (length bs + (e - s)) largest))
       where
-        go : (t : Bool) → cond t (bytes (bs ++ cut src s (e - s))) (refused 6 0) ≡ outcome (cond t (At (length bs + (e - s))) (Refused 6 0)) (bs ++ cut src s (e - s))
+        go : (t : Bool) → cond t (bytes (bs ++ cut src s (e - s))) (refused 6 0) ≡ outcome (cond t (Ok (length bs + (e - s))) (refuse 6 0)) (bs ++ cut src s (e - s))
         go true = refl
         go false = refl
-    same bs (Refused n o) q = go (leb (length bs + (o - s)) largest)
+    same bs (Err r) q = go (leb (length bs + (r.offset - s)) largest)
       where
-        go : (t : Bool) → cond t (refused n (length bs + (o - s))) (refused 6 0) ≡ outcome (cond t (Refused n (length bs + (o - s))) (Refused 6 0)) (bs ++ (from_to src s (Refused n o) ++ []))
+        go : (t : Bool) → cond t (refused r.number (length bs + (r.offset - s))) (refused 6 0) ≡ outcome (cond t (refuse r.number (length bs + (r.offset - s))) (refuse 6 0)) (bs ++ (from_to src s (Err r) ++ []))
         go true = refl
         go false = refl
 
@@ -373,9 +372,9 @@ part_lays b (groups w low high between fs) src v =
     let start = get_or (drop 1 v) (arities between) 0 in
     let n = get_or v 0 0 in
     lays_then (write_number w low high 6 n) (λ d. (copy_groups n fs src (copy start (write_group between src (drop 1 v) d))).to) (number_piece w low high 6 n ∷ [])
-    (group_pieces between src (drop 1 v) ++ (section_piece src start (groups_end fs src n (At start)) ∷ []))
+    (group_pieces between src (drop 1 v) ++ (section_piece src start (groups_end fs src n (Ok start)) ∷ []))
     ((part_sound b (groups w low high between fs) src v).0, tt) (number_lays w low high 6 n)
-    (lays_then (write_group between src (drop 1 v)) (λ d. (copy_groups n fs src (copy start d)).to) (group_pieces between src (drop 1 v)) (section_piece src start (groups_end fs src n (At start)) ∷ [])
+    (lays_then (write_group between src (drop 1 v)) (λ d. (copy_groups n fs src (copy start d)).to) (group_pieces between src (drop 1 v)) (section_piece src start (groups_end fs src n (Ok start)) ∷ [])
     (group_sound between src (drop 1 v)) (group_lays between src (drop 1 v)) (section_lays (λ xs c. groups_end fs xs n c) (copy_groups n fs) (groups_follow fs n) src start))
 part_lays b tuple src v = section_lays tuple_end copy_tuple tuple_follows src (get_or v 0 0)
 part_lays b (optional_tuple set) src v = go (eqb (get_or v 0 0) 0)
@@ -397,7 +396,7 @@ layout_lays b (p ∷ ps) src vs =
 -- version and kind, and then what the fields give
 opened-first :
     (ps : List Piece) (bs : List ℕ) (s t : Bool)
-    → cond s (refused 1 0) (cond t (refused 3 0) (outcome (steps ps (At 1)) bs)) ≡ outcome (steps ps (cond s (Refused 1 0) (cond t (Refused 3 0) (At 1)))) bs
+    → cond s (refused 1 0) (cond t (refused 3 0) (outcome (steps ps (Ok 1)) bs)) ≡ outcome (steps ps (cond s (refuse 1 0) (cond t (refuse 3 0) (Ok 1)))) bs
 opened-first ps bs true t = rw (steps_stay ps 1 0)
 opened-first ps bs false true = rw (steps_stay ps 3 0)
 opened-first ps bs false false = refl
@@ -407,4 +406,4 @@ unfolding write_message write_short opened
 short v b m src =
     let k = kind_of_message m in
     rw ((layout_lays b (layout k) src (parts_of m)).lays (letter_of k ∷ []) (omega arith))
-    (opened-first (layout_pieces b (layout k) src (parts_of m)) _ (not (version_allows v b)) (not (version_has v (some k))))
+    (opened-first (layout_pieces b (layout k) src (parts_of m)) _ (not (version_allows v b)) (not (version_has v (Some k))))

@@ -2,14 +2,13 @@
 use Prim.Native.Nat.{ℕ, zero, suc, ◌+◌, ◌-◌, ◌≤◌}
 use mathlib.Core.List.{List, [], ◌∷◌, ◌++◌}
 use mathlib.Core.Bool.{Bool, true, false, not, cond}
-use mathlib.Core.Option.{some}
+use Rattle.std.specs.Prelude.{Some, Ok, Err}
 use mathlib.Core.Path.{◌≡◌, refl}
 use native.Mathlib.Omega.{arith}
 use borrow.Author.Tests.{leb-true}
 use lib.ListN.{length, get_or, take, drop}
 use lib.Dec.{eqb, leb}
-use Rattle.wire.specs.declared.Cursor.{Cursor}
-use Rattle.wire.specs.declared.Cursor.TheVariants.{At, Refused}
+use Rattle.wire.specs.Cursors.{Cursor, refuse}
 use Rattle.wire.specs.Fields.{number_field, letter_field, text_field, bytes_field, in_range, member}
 use Rattle.message.specs.declared.Version.{Version}
 use Rattle.message.specs.declared.Message.{Message}
@@ -53,28 +52,28 @@ test-kept false field n i d k = bad-kept n i d k
 module _ (src : List ℕ) where
   -- a field that is read at a place of the source, inside it or not
   copied-kept : (a : ℕ) (e : Cursor) → Fine (a + length src) e → (c : Copy) → Kept c.to → Kept (copied src e c).to
-  copied-kept a (At e) f c k = good-kept (cut src c.from (e - c.from)) c.to k
-  copied-kept a (Refused n o) f c k = bad-kept n (at f (omega arith)) c.to k
+  copied-kept a (Ok e) f c k = good-kept (cut src c.from (e - c.from)) c.to k
+  copied-kept a (Err r) f c k = bad-kept r.number (at f (omega arith)) c.to k
 
-  copy-number : (w low high n : ℕ) → Named n → (c : Copy) → Kept c.to → Kept (copied src (number_field w low high n src (At c.from)).next c).to
-  copy-number w low high n i c = copied-kept c.from (number_field w low high n src (At c.from)).next (number_fine src (c.from + length src) (omega arith) w low high n i (At c.from) (omega arith)) c
+  copy-number : (w low high n : ℕ) → Named n → (c : Copy) → Kept c.to → Kept (copied src (number_field w low high n src (Ok c.from)).next c).to
+  copy-number w low high n i c = copied-kept c.from (number_field w low high n src (Ok c.from)).next (number_fine src (c.from + length src) (omega arith) w low high n i (Ok c.from) (omega arith)) c
 
-  copy-letter : (set : List ℕ) (c : Copy) → Kept c.to → Kept (copied src (letter_field set src (At c.from)).next c).to
-  copy-letter set c = copied-kept c.from (letter_field set src (At c.from)).next (letter_fine src (c.from + length src) (omega arith) set (At c.from) (omega arith)) c
+  copy-letter : (set : List ℕ) (c : Copy) → Kept c.to → Kept (copied src (letter_field set src (Ok c.from)).next c).to
+  copy-letter set c = copied-kept c.from (letter_field set src (Ok c.from)).next (letter_fine src (c.from + length src) (omega arith) set (Ok c.from) (omega arith)) c
 
-  copy-text : (c : Copy) → Kept c.to → Kept (copied src (text_field src (At c.from)).next c).to
-  copy-text c = copied-kept c.from (text_field src (At c.from)).next (text_fine src (c.from + length src) (omega arith) (At c.from) (omega arith)) c
+  copy-text : (c : Copy) → Kept c.to → Kept (copied src (text_field src (Ok c.from)).next c).to
+  copy-text c = copied-kept c.from (text_field src (Ok c.from)).next (text_fine src (c.from + length src) (omega arith) (Ok c.from) (omega arith)) c
 
-  copy-bytes : (n : ℕ) (c : Copy) → Kept c.to → Kept (copied src (bytes_field n src (At c.from)).next c).to
-  copy-bytes n c = copied-kept c.from (bytes_field n src (At c.from)).next (bytes_fine src (c.from + length src) (omega arith) n (At c.from) (omega arith)) c
+  copy-bytes : (n : ℕ) (c : Copy) → Kept c.to → Kept (copied src (bytes_field n src (Ok c.from)).next c).to
+  copy-bytes n c = copied-kept c.from (bytes_field n src (Ok c.from)).next (bytes_fine src (c.from + length src) (omega arith) n (Ok c.from) (omega arith)) c
 
   copy-value : (c : Copy) → Kept c.to → Kept (copy_value src c).to
   copy-value c k =
-      let l = number_field 4 0 0x7FFFFFFF 4 src (At c.from) in
+      let l = number_field 4 0 0x7FFFFFFF 4 src (Ok c.from) in
       copy-bytes l.value (copied src l.next c) (copy-number 4 0 0x7FFFFFFF 4 four c k)
 
   copy-column : (c : Copy) → Kept c.to → Kept (copy_column src c).to
-  copy-column c k = let l = letter_field column_letters src (At c.from) in go (has_value l.value) (copied src l.next c) (copy-letter column_letters c k)
+  copy-column c k = let l = letter_field column_letters src (Ok c.from) in go (has_value l.value) (copied src l.next c) (copy-letter column_letters c k)
     where
       go : (t : Bool) (d : Copy) → Kept d.to → Kept (cond t (copy_value src d) d).to
       go true d k = copy-value d k
@@ -98,7 +97,7 @@ module _ (src : List ℕ) where
 
   copy-tuple : (c : Copy) → Kept c.to → Kept (copy_tuple src c).to
   copy-tuple c k =
-      let n = column_count src (At c.from) in
+      let n = column_count src (Ok c.from) in
       copy-groups (column ∷ []) n.value (copied src n.next c) (copy-number 2 0 most_columns 6 six c k)
 
   write_text_lem : (start n : ℕ) (d : Writing) → Kept d → Kept (write_text src start n d)
@@ -154,7 +153,7 @@ module _ (src : List ℕ) where
 
   write_kept : (v : Version) (b : Bool) (m : Message) → Kept (write_message v b m src)
   unfolding write_message
-  write_kept v b m = go (not (version_allows v b)) (not (version_has v (some (kind_of_message m))))
+  write_kept v b m = go (not (version_allows v b)) (not (version_has v (Some (kind_of_message m))))
     where
       go : (t u : Bool) → Kept (cond t (refused 1 0) (cond u (refused 3 0) (write_fields b (layout (kind_of_message m)) src (parts_of m) (good (letter_of (kind_of_message m) ∷ []) (bytes [])))))
       go true u = at (within 1 (omega arith) (omega arith)) (omega arith)

@@ -2,7 +2,7 @@
 use Rattle.std.specs.Prelude.{ℕ, zero, suc, ◌-◌, ◌/◌, ◌%◌, List, [], ◌∷◌, ◌++◌, take, drop}
 use Rattle.std.specs.Int.{w64}
 use Rattle.std.proofs.Common.{of_z}
-use Rattle.wire.specs.declared.Cursor.{Cursor}
+use Rattle.wire.specs.Cursors.{Cursor}
 use Rattle.wire.specs.declared.Span.{Span}
 use Rattle.wire.specs.Fields.{position_of}
 use Rattle.message.specs.declared.OldTuple.{OldTuple}

@@ -1,25 +1,52 @@
 -- To be believed (demand 1). The kinds of messages: their letters, the first version that has each, and the fields after the letter
 -- (document 01, "Layouts": a line for each row of its table, in its order).
-use Rattle.std.specs.Prelude.{ℕ, suc, List, [], ◌∷◌, cond, eqb}
-use Rattle.std.proofs.Math.Option.{Option, none, some}
+use Rattle.std.specs.Prelude.{ℕ, suc, List, [], ◌∷◌, Option, Some, None, cond, eqb}
 use Rattle.wire.specs.Numbers.{most32, most64}
+pub use Rattle.message.specs.declared.kinds.Kind.{Kind}
+use Rattle.message.specs.declared.kinds.Kind.TheVariants as k
 use Rattle.message.specs.Layout.{Field, Part, one, block_xid, groups, tuple, optional_tuple, number, constant, letter, text, value, id, most_columns}
 
-pub data Kind : Type 0 where
-  begin : Kind
-  commit : Kind
-  origin : Kind
-  relation : Kind
-  type : Kind
-  insert : Kind
-  update : Kind
-  delete : Kind
-  truncate : Kind
-  message : Kind
-  stream_start : Kind
-  stream_stop : Kind
-  stream_commit : Kind
-  stream_abort : Kind
+pattern abbrev pub begin : Kind
+begin = k.Begin
+
+pattern abbrev pub commit : Kind
+commit = k.Commit
+
+pattern abbrev pub origin : Kind
+origin = k.Origin
+
+pattern abbrev pub relation : Kind
+relation = k.Relation
+
+pattern abbrev pub type : Kind
+type = k.«Type»
+
+pattern abbrev pub insert : Kind
+insert = k.Insert
+
+pattern abbrev pub update : Kind
+update = k.Update
+
+pattern abbrev pub delete : Kind
+delete = k.Delete
+
+pattern abbrev pub truncate : Kind
+truncate = k.Truncate
+
+pattern abbrev pub message : Kind
+message = k.Message
+
+pattern abbrev pub stream_start : Kind
+stream_start = k.StreamStart
+
+pattern abbrev pub stream_stop : Kind
+stream_stop = k.StreamStop
+
+pattern abbrev pub stream_commit : Kind
+stream_commit = k.StreamCommit
+
+pattern abbrev pub stream_abort : Kind
+stream_abort = k.StreamAbort
 
 -- in the order of the table
 abbrev pub all_kinds : List Kind
@@ -132,8 +159,8 @@ layout stream_abort = xid ∷ xid ∷ []
 -- THE KIND OF A FIRST BYTE
 
 unfoldable pub kind_among : List Kind → ℕ → Option Kind
-kind_among [] l = none
-kind_among (k ∷ ks) l = cond (eqb l (letter_of k)) (some k) (kind_among ks l)
+kind_among [] l = None
+kind_among (k ∷ ks) l = cond (eqb l (letter_of k)) (Some k) (kind_among ks l)
 
 -- the kind whose letter a byte is
 abbrev pub kind_of : ℕ → Option Kind
@@ -141,25 +168,25 @@ kind_of l = kind_among all_kinds l
 
 -- a kind's number is its place in the table, from 1 on; 0 is no kind
 abbrev pub kind_number : Option Kind → ℕ
-kind_number none = 0
-kind_number (some begin) = 1
-kind_number (some commit) = 2
-kind_number (some origin) = 3
-kind_number (some relation) = 4
-kind_number (some type) = 5
-kind_number (some insert) = 6
-kind_number (some update) = 7
-kind_number (some delete) = 8
-kind_number (some truncate) = 9
-kind_number (some message) = 10
-kind_number (some stream_start) = 11
-kind_number (some stream_stop) = 12
-kind_number (some stream_commit) = 13
-kind_number (some stream_abort) = 14
+kind_number None = 0
+kind_number (Some begin) = 1
+kind_number (Some commit) = 2
+kind_number (Some origin) = 3
+kind_number (Some relation) = 4
+kind_number (Some type) = 5
+kind_number (Some insert) = 6
+kind_number (Some update) = 7
+kind_number (Some delete) = 8
+kind_number (Some truncate) = 9
+kind_number (Some message) = 10
+kind_number (Some stream_start) = 11
+kind_number (Some stream_stop) = 12
+kind_number (Some stream_commit) = 13
+kind_number (Some stream_abort) = 14
 
 unfoldable pub numbered : List Kind → ℕ → ℕ → Option Kind
-numbered [] i n = none
-numbered (k ∷ ks) i n = cond (eqb n i) (some k) (numbered ks (suc i) n)
+numbered [] i n = None
+numbered (k ∷ ks) i n = cond (eqb n i) (Some k) (numbered ks (suc i) n)
 
 -- the kind that has a number
 abbrev pub kind_numbered : ℕ → Option Kind

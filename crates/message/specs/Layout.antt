@@ -1,12 +1,9 @@
 -- To be believed (demand 1). What a layout is made of, and the one way to read it: fields from left to right, each first for presence and then for content.
 use Rattle.std.specs.Prelude.{ℕ, zero, suc, List, [], ◌∷◌, ◌++◌, Bool, cond, ◌||◌, eqb, get_or}
-use Rattle.wire.specs.declared.Cursor.{Cursor}
-use Rattle.wire.specs.declared.Field64.{Field64}
-use Rattle.wire.specs.declared.Field32.{Field32}
-use Rattle.wire.specs.declared.Field8.{Field8}
+use Rattle.wire.specs.Cursors.{Cursor, Taken}
 use Rattle.wire.specs.declared.Span.{Span}
 use Rattle.wire.specs.Numbers.{most32}
-use Rattle.wire.specs.Fields.{number_field, letter_field, text_field, value_field, position_of, no_number, no_span, narrow32}
+use Rattle.wire.specs.Fields.{number_field, letter_field, text_field, value_field, position_of, no_number, no_span}
 
 -- THE DESCRIPTORS
 
@@ -65,7 +62,7 @@ pub record Step : Type 0 where
   pub next : Cursor
 
 -- a column's letter, its value, and its end
-abbrev pub column_letter : List ℕ → Cursor → Field8
+abbrev pub column_letter : List ℕ → Cursor → Taken ℕ
 column_letter xs c = letter_field column_letters xs c
 
 unfoldable pub column_value : List ℕ → Cursor → Span
@@ -113,7 +110,7 @@ read_groups w low high between fs xs c =
     }
 
 -- how many columns a tuple has
-abbrev pub column_count : List ℕ → Cursor → Field64
+abbrev pub column_count : List ℕ → Cursor → Taken ℕ
 column_count xs c = number_field 2 0 most_columns 6 xs c
 
 -- the end of a tuple: a count of columns, and the columns
@@ -134,12 +131,12 @@ optional set xs c =
     (record { letter = k.value; start = position_of k.next; next = tuple_end xs k.next })
 
 -- the number that a field gives
-abbrev pub number_of : Field → List ℕ → Cursor → Field64
+abbrev pub number_of : Field → List ℕ → Cursor → Taken ℕ
 number_of f xs c = let s = read_field f xs c in record { value = get_or s.values 0 0; next = s.next }
 
 -- an xid inside a block, and outside 0 and no byte
-unfoldable pub xid_field : Bool → List ℕ → Cursor → Field32
-xid_field b xs c = narrow32 (cond b (number_of id xs c) (no_number c))
+unfoldable pub xid_field : Bool → List ℕ → Cursor → Taken ℕ
+xid_field b xs c = cond b (number_of id xs c) (no_number c)
 
 abbrev pub read_part : Bool → Part → List ℕ → Cursor → Step
 read_part b (one f) xs c = read_field f xs c

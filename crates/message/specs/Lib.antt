@@ -1,5 +1,6 @@
 pub mod Layout
 pub mod Kinds
+pub mod Numbered
 pub mod Versions
 pub mod Messages
 pub mod Encode

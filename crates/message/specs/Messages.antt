@@ -1,18 +1,15 @@
 -- To be believed (demand 1). The message that a layout's numbers make, and what reading any bytes gives.
-use Rattle.std.specs.Prelude.{ℕ, List, [], Bool, not, cond, eqb, ltb, get_or, length}
-use Rattle.std.proofs.Math.Option.{Option, none, some}
+use Rattle.std.specs.Prelude.{ℕ, List, [], Bool, not, cond, eqb, ltb, get_or, length, Result, Ok, Err, Option, None, Some}
 use Rattle.std.specs.Int.{w64}
 use Rattle.std.proofs.Common.{to_z}
-use Rattle.wire.specs.declared.Cursor.{Cursor}
-use Rattle.wire.specs.declared.Cursor.TheVariants.{At, Refused}
+use Rattle.wire.specs.Cursors.{Cursor, refuse}
 use Rattle.wire.specs.declared.Span.{Span}
+use Rattle.wire.specs.declared.Refusal.{Refusal}
 use Rattle.message.specs.declared.Version.{Version}
 use Rattle.message.specs.declared.OldTuple.{OldTuple}
 use Rattle.message.specs.declared.OldTuple.TheVariants.{Nothing, Key, Full}
 use Rattle.message.specs.declared.Message.{Message}
 use Rattle.message.specs.declared.Message.TheVariants as a
-use Rattle.message.specs.declared.Read.{Read}
-use Rattle.message.specs.declared.Read.TheVariants as answer
 use Rattle.message.specs.Layout.{read_fields}
 use Rattle.message.specs.Kinds.{Kind, begin, commit, origin, relation, type, insert, update, delete, truncate, message, stream_start, stream_stop, stream_commit, stream_abort, layout, kind_of}
 use Rattle.message.specs.Versions.{version_allows, version_has}
@@ -56,27 +53,28 @@ message_of stream_abort v = a.StreamAbort (num v 0) (num v 1)
 
 -- READING
 
-abbrev pub refuse : ℕ → ℕ → Read
-refuse n offset = answer.Refused (record { number = n; offset = offset })
+-- what reading gives
+abbrev pub Read : Type 0
+Read = Result Message Refusal
 
 -- bytes left over are refused last
 abbrev pub finished : List ℕ → Cursor → Cursor
-finished xs (At at) = cond (eqb at (length xs)) (At at) (Refused 5 at)
-finished xs (Refused n at) = Refused n at
+finished xs (Ok at) = cond (eqb at (length xs)) (Ok at) (refuse 5 at)
+finished xs (Err r) = Err r
 
 abbrev pub settled : Cursor → Message → Read
-settled (At at) m = answer.Message m
-settled (Refused n at) m = refuse n at
+settled (Ok at) m = Ok m
+settled (Err r) m = Err r
 
 -- a message of a kind, from the byte after the letter on
 unfoldable pub read_kind : Kind → Bool → List ℕ → Read
 read_kind k in_block xs =
-    let r = read_fields in_block (layout k) xs (At 1) in
+    let r = read_fields in_block (layout k) xs (Ok 1) in
     settled (finished xs r.next) (message_of k r.parts)
 
 abbrev pub read_named : Option Kind → Bool → List ℕ → Read
-read_named none in_block xs = refuse 3 0
-read_named (some k) in_block xs = read_kind k in_block xs
+read_named None in_block xs = refuse 3 0
+read_named (Some k) in_block xs = read_kind k in_block xs
 
 -- version, then length, then letter, then the fields (document 01, "The refusal table")
 unfoldable pub read_message : Version → Bool → List ℕ → Read

@@ -1,9 +1,7 @@
 -- For contracts only. Writing in a shorter form, which code and proofs use: a message is a list of pieces, what lies in the source in its layout being one
 -- piece that is judged as a whole. It gives what the definition of writing gives (proofs/Short).
-use Rattle.std.specs.Prelude.{ℕ, ◌+◌, ◌-◌, List, [], ◌∷◌, ◌++◌, Bool, not, cond, length, get_or, take, drop, eqb, leb}
-use Rattle.std.proofs.Math.Option.{Option, some}
-use Rattle.wire.specs.declared.Cursor.{Cursor}
-use Rattle.wire.specs.declared.Cursor.TheVariants.{At, Refused}
+use Rattle.std.specs.Prelude.{ℕ, ◌+◌, ◌-◌, List, [], ◌∷◌, ◌++◌, Bool, not, cond, length, get_or, take, drop, eqb, leb, Ok, Err, Option, Some}
+use Rattle.wire.specs.Cursors.{Cursor, refuse}
 use Rattle.wire.specs.Numbers.{most32}
 use Rattle.wire.specs.Fields.{in_range, member}
 use Rattle.message.specs.declared.Version.{Version}
@@ -24,13 +22,13 @@ pub record Piece : Type 0 where
 -- a judgement, its start moved to `at` in the message being written. What ends or is refused past the largest message is too long:
 -- a refusal stands there only behind a good field that ended there
 unfoldable pub placed : ℕ → ℕ → Cursor → Cursor
-placed at start (At e) = cond (leb (at + (e - start)) largest) (At (at + (e - start))) (Refused 6 0)
-placed at start (Refused n o) = cond (leb (at + (o - start)) largest) (Refused n (at + (o - start))) (Refused 6 0)
+placed at start (Ok e) = cond (leb (at + (e - start)) largest) (Ok (at + (e - start))) (refuse 6 0)
+placed at start (Err r) = cond (leb (at + (r.offset - start)) largest) (refuse r.number (at + (r.offset - start))) (refuse 6 0)
 
 -- where a judgement leads from a cursor
 abbrev pub advanced : ℕ → Cursor → Cursor → Cursor
-advanced start j (At at) = placed at start j
-advanced start j (Refused n o) = Refused n o
+advanced start j (Ok at) = placed at start j
+advanced start j (Err r) = Err r
 
 abbrev pub step : Piece → Cursor → Cursor
 step p c = advanced p.start p.judgement c
@@ -50,7 +48,7 @@ piece bs j = record { bytes = bs; start = 0; judgement = j }
 
 -- a field of w bytes that is good, else refusal n
 abbrev pub tested : Bool → ℕ → ℕ → Cursor
-tested t w n = cond t (At w) (Refused n 0)
+tested t w n = cond t (Ok w) (refuse n 0)
 
 abbrev pub number_piece : (w low high n : ℕ) → ℕ → Piece
 number_piece w low high n v = piece (digits w v) (tested (in_range low high v) w n)
@@ -59,14 +57,14 @@ abbrev pub letter_piece : List ℕ → ℕ → Piece
 letter_piece set v = piece (v ∷ []) (tested (member set v) 1 4)
 
 abbrev pub byte_piece : ℕ → Piece
-byte_piece k = piece (k ∷ []) (At 1)
+byte_piece k = piece (k ∷ []) (Ok 1)
 
 -- a length of 4 bytes, however large
 abbrev pub length_piece : ℕ → Piece
-length_piece n = piece (digits 4 n) (At 4)
+length_piece n = piece (digits 4 n) (Ok 4)
 
 abbrev pub text_judgement : List ℕ → (start n : ℕ) → Cursor
-text_judgement src start n = cond (leb (start + n) (length src)) (cond (member (cut src start n) 0) (Refused 4 0) (At (n + 1))) (Refused 2 0)
+text_judgement src start n = cond (leb (start + n) (length src)) (cond (member (cut src start n) 0) (refuse 4 0) (Ok (n + 1))) (refuse 2 0)
 
 abbrev pub text_piece : List ℕ → (start n : ℕ) → Piece
 text_piece src start n = piece (cut src start n ++ (0 ∷ [])) (text_judgement src start n)
@@ -107,7 +105,7 @@ group_pieces [] src v = []
 group_pieces (f ∷ fs) src v = field_pieces f src (take (arity f) v) ++ group_pieces fs src (drop (arity f) v)
 
 abbrev pub tuple_piece : List ℕ → ℕ → Piece
-tuple_piece src start = section_piece src start (tuple_end src (At start))
+tuple_piece src start = section_piece src start (tuple_end src (Ok start))
 
 -- a letter and a tuple, or nothing where the letter is 0
 abbrev pub old_pieces : List ℕ → List ℕ → (letter start : ℕ) → List Piece
@@ -118,7 +116,7 @@ part_pieces b (one f) src v = field_pieces f src v
 part_pieces b block_xid src v = xid_piece b (get_or v 0 0) ∷ []
 part_pieces b (groups w low high between fs) src v =
     let start = get_or (drop 1 v) (arities between) 0 in
-    number_piece w low high 6 (get_or v 0 0) ∷ group_pieces between src (drop 1 v) ++ (section_piece src start (groups_end fs src (get_or v 0 0) (At start)) ∷ [])
+    number_piece w low high 6 (get_or v 0 0) ∷ group_pieces between src (drop 1 v) ++ (section_piece src start (groups_end fs src (get_or v 0 0) (Ok start)) ∷ [])
 part_pieces b tuple src v = tuple_piece src (get_or v 0 0) ∷ []
 part_pieces b (optional_tuple set) src v = old_pieces set src (get_or v 0 0) (get_or v 1 0)
 
@@ -131,16 +129,16 @@ abbrev pub message_pieces : Bool → Message → List ℕ → List Piece
 message_pieces b m src = let k = kind_of_message m in byte_piece (letter_of k) ∷ layout_pieces b (layout k) src (parts_of m)
 
 abbrev pub outcome : Cursor → List ℕ → Writing
-outcome (At e) bs = bytes bs
-outcome (Refused n o) bs = refused n o
+outcome (Ok e) bs = bytes bs
+outcome (Err r) bs = refused r.number r.offset
 
 -- version, then kind: where the fields start, behind the letter, or the refusal
 unfoldable pub opened : Version → Bool → Option Kind → Cursor
-opened v b k = cond (not (version_allows v b)) (Refused 1 0) (cond (not (version_has v k)) (Refused 3 0) (At 1))
+opened v b k = cond (not (version_allows v b)) (refuse 1 0) (cond (not (version_has v k)) (refuse 3 0) (Ok 1))
 
 -- where the message ends, or the first refusal
 abbrev pub message_end : Version → Bool → Message → List ℕ → Cursor
-message_end v b m src = let k = kind_of_message m in steps (layout_pieces b (layout k) src (parts_of m)) (opened v b (some k))
+message_end v b m src = let k = kind_of_message m in steps (layout_pieces b (layout k) src (parts_of m)) (opened v b (Some k))
 
 unfoldable pub write_short : Version → Bool → Message → List ℕ → Writing
 write_short v b m src = outcome (message_end v b m src) (bytes_of (message_pieces b m src))

@@ -1,8 +1,7 @@
 -- To be believed (demand 2). What a message says, apart from where its parts lie.
-use Rattle.std.specs.Prelude.{ℕ, List, [], ◌∷◌, ◌≡◌, ℤ}
+use Rattle.std.specs.Prelude.{ℕ, List, [], ◌∷◌, ◌≡◌, ℤ, Ok}
 use Rattle.std.specs.Int.{w64}
 use Rattle.std.proofs.Common.{of_z}
-use Rattle.wire.specs.declared.Cursor.TheVariants.{At}
 use Rattle.wire.specs.declared.Span.{Span}
 use Rattle.message.specs.declared.OldTuple.{OldTuple}
 use Rattle.message.specs.declared.OldTuple.TheVariants.{Nothing, Key, Full}
@@ -26,13 +25,13 @@ module _ (xs : List ℕ) where
   text s = bytes (cut xs s.start s.length)
 
   abbrev pub tuple : ℕ → Content
-  tuple start = bytes (from_to xs start (tuple_end xs (At start)))
+  tuple start = bytes (from_to xs start (tuple_end xs (Ok start)))
 
   abbrev pub columns : (n start : ℕ) → Content
-  columns n start = bytes (from_to xs start (groups_end column_fields xs n (At start)))
+  columns n start = bytes (from_to xs start (groups_end column_fields xs n (Ok start)))
 
   abbrev pub oids : (n start : ℕ) → Content
-  oids n start = bytes (from_to xs start (groups_end (id ∷ []) xs n (At start)))
+  oids n start = bytes (from_to xs start (groups_end (id ∷ []) xs n (Ok start)))
 
   -- an old tuple, its letter first, and what follows
   abbrev pub old : OldTuple → List Content → List Content

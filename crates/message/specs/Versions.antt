@@ -1,6 +1,5 @@
 -- To be believed (demand 1). What each version allows (document 01, "Layouts" and refusals 1 and 3).
-use Rattle.std.specs.Prelude.{Bool, false, not, ◌&&◌, ◌||◌, leb}
-use Rattle.std.proofs.Math.Option.{Option, none, some}
+use Rattle.std.specs.Prelude.{Bool, false, not, ◌&&◌, ◌||◌, leb, Option, None, Some}
 use Rattle.wire.specs.Fields.{in_range}
 use Rattle.message.specs.declared.Version.{Version}
 use Rattle.message.specs.Kinds.{Kind, first_version}
@@ -14,5 +13,5 @@ unfoldable pub version_allows : Version → Bool → Bool
 version_allows v in_block = is_known v && (not in_block || leb 2 v.number)
 
 unfoldable pub version_has : Version → Option Kind → Bool
-version_has v none = false
-version_has v (some k) = is_known v && leb (first_version k) v.number
+version_has v None = false
+version_has v (Some k) = is_known v && leb (first_version k) v.number

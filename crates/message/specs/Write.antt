@@ -1,9 +1,7 @@
 -- To be believed (demand 2). What writing a message gives, over the layouts that reading interprets: the message's bytes, or the first refusal
 -- (document 01, the paragraph on writing under "The refusal table").
-use Rattle.std.specs.Prelude.{ℕ, zero, suc, ◌+◌, ◌-◌, List, [], ◌∷◌, ◌++◌, Bool, not, cond, length, get_or, take, drop, eqb, leb}
-use Rattle.std.proofs.Math.Option.{some}
-use Rattle.wire.specs.declared.Cursor.{Cursor}
-use Rattle.wire.specs.declared.Cursor.TheVariants.{At, Refused}
+use Rattle.std.specs.Prelude.{ℕ, zero, suc, ◌+◌, ◌-◌, List, [], ◌∷◌, ◌++◌, Bool, not, cond, length, get_or, take, drop, eqb, leb, Ok, Err, Some}
+use Rattle.wire.specs.Cursors.{Cursor, refuse}
 use Rattle.wire.specs.Fields.{in_range, member, number_field, letter_field, text_field, bytes_field}
 use Rattle.message.specs.declared.Version.{Version}
 use Rattle.message.specs.declared.Message.{Message}
@@ -44,28 +42,28 @@ copy from to = record { from = from; to = to }
 
 -- one field, with the end or the refusal that reading it in the source gives
 abbrev pub copied : List ℕ → Cursor → Copy → Copy
-copied src (At end) c = copy end (good (cut src c.from (end - c.from)) c.to)
-copied src (Refused n offset) c = copy c.from (bad n c.to)
+copied src (Ok end) c = copy end (good (cut src c.from (end - c.from)) c.to)
+copied src (Err r) c = copy c.from (bad r.number c.to)
 
 -- a length, and then the value
 abbrev pub copy_value : List ℕ → Copy → Copy
 copy_value src c =
-    let l = number_field 4 0 0x7FFFFFFF 4 src (At c.from) in
+    let l = number_field 4 0 0x7FFFFFFF 4 src (Ok c.from) in
     let d = copied src l.next c in
-    copied src (bytes_field l.value src (At d.from)).next d
+    copied src (bytes_field l.value src (Ok d.from)).next d
 
 -- a letter, and where it says so a value
 abbrev pub copy_column : List ℕ → Copy → Copy
 copy_column src c =
-    let k = column_letter src (At c.from) in
+    let k = column_letter src (Ok c.from) in
     let d = copied src k.next c in
     cond (has_value k.value) (copy_value src d) d
 
 abbrev pub copy_field : Field → List ℕ → Copy → Copy
-copy_field (number w low high) src c = copied src (number_field w low high 4 src (At c.from)).next c
-copy_field (constant k) src c = copied src (letter_field (k ∷ []) src (At c.from)).next c
-copy_field (letter set) src c = copied src (letter_field set src (At c.from)).next c
-copy_field text src c = copied src (text_field src (At c.from)).next c
+copy_field (number w low high) src c = copied src (number_field w low high 4 src (Ok c.from)).next c
+copy_field (constant k) src c = copied src (letter_field (k ∷ []) src (Ok c.from)).next c
+copy_field (letter set) src c = copied src (letter_field set src (Ok c.from)).next c
+copy_field text src c = copied src (text_field src (Ok c.from)).next c
 copy_field value src c = copy_value src c
 copy_field column src c = copy_column src c
 
@@ -80,7 +78,7 @@ copy_groups (suc n) fs src c = copy_groups n fs src (copy_group fs src c)
 -- a tuple: a count of columns, and the columns
 abbrev pub copy_tuple : List ℕ → Copy → Copy
 copy_tuple src c =
-    let n = column_count src (At c.from) in
+    let n = column_count src (Ok c.from) in
     copy_groups n.value (column ∷ []) src (copied src n.next c)
 
 -- WHAT THE MESSAGE GIVES
@@ -156,5 +154,5 @@ unfoldable pub write_message : Version → Bool → Message → List ℕ → Wri
 write_message v in_block m src =
     let k = kind_of_message m in
     cond (not (version_allows v in_block)) (refused 1 0)
-    (cond (not (version_has v (some k))) (refused 3 0)
+    (cond (not (version_has v (Some k))) (refused 3 0)
     (write_fields in_block (layout k) src (parts_of m) (good (letter_of k ∷ []) (bytes []))))

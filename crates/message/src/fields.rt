@@ -1,30 +1,30 @@
 // Fields that several layouts have.
 ghost use Rattle.std.specs.Prelude.{◌≡◌};
-ghost use Rattle.wire.specs.Fields.{narrow16, narrow32};
+ghost use Rattle.wire.specs.Readers.{Reads};
 ghost use Rattle.message.specs.Layout.{id, has_value, number_of, column_letter, column_count};
 
 use crate::MOST_COLUMNS;
-use wire::{Cursor, Field8, Field16, Field32, Refusal};
+use wire::{Reader, Refusal};
 
 // An xid, sub-xid or relation OID, which is not 0.
-pub fn id(s: &[u8], c: Cursor) -> Field32
-    ensures { result ≡ narrow32 (number_of id s.now c) }
+pub fn id(r: &mut Reader) -> Result<u32, Refusal>
+    ensures { Reads (number_of id r.old.bytes.now r.old.next) r.old result r.new }
 {
-    wire::number32(s, c, 1, u32::MAX, Refusal::FIELD)
+    r.number(1, u32::MAX, Refusal::FIELD)
 }
 
 // How many columns a tuple or a relation has.
-pub fn column_count(s: &[u8], c: Cursor) -> Field16
-    ensures { result ≡ narrow16 (column_count s.now c) }
+pub fn column_count(r: &mut Reader) -> Result<u16, Refusal>
+    ensures { Reads (column_count r.old.bytes.now r.old.next) r.old result r.new }
 {
-    wire::number16(s, c, 0, MOST_COLUMNS, Refusal::RANGE)
+    r.number(0, MOST_COLUMNS, Refusal::RANGE)
 }
 
 // The letter of a column of a tuple.
-pub fn column_letter(s: &[u8], c: Cursor) -> Field8
-    ensures { result ≡ column_letter s.now c }
+pub fn column_letter(r: &mut Reader) -> Result<u8, Refusal>
+    ensures { Reads (column_letter r.old.bytes.now r.old.next) r.old result r.new }
 {
-    wire::letter(s, c, b"nutb")
+    r.letter(b"nutb")
 }
 
 // Whether a column of this letter has a value.

@@ -1,13 +1,14 @@
 #![tactic(auto)]
 
 ghost use Rattle.std.specs.Prelude.{◌≡◌};
-ghost use Rattle.message.specs.Kinds.{kind_of, kind_number, kind_numbered};
-ghost use Rattle.message.specs.Versions.{version_allows, version_has};
+ghost use Rattle.message.specs.Versions.{is_known, version_allows, version_has};
 
-use wire::{Refusal, Span};
+use wire::Span;
 
 pub mod fields;
-pub mod kind;
+mod kinds;
+
+pub use kinds::{Kind, UnknownKind, kind_of};
 
 // The largest message, in bytes.
 pub const LARGEST: usize = 1_073_741_823;
@@ -30,36 +31,35 @@ impl Version {
     // Large transactions come in stream blocks while they are in progress.
     pub const STREAMING: u32 = 2;
 
+    // Whether there is this version.
+    pub fn is_known(self) -> bool
+        ensures { result ≡ is_known self }
+    {
+        self.number == Self::FIRST || self.number == Self::STREAMING
+    }
+
     // Whether this version is known and, inside a stream block, has stream blocks.
+    #[tactic(auto, unfolding(crate::specs::Versions::version_allows))]
     pub fn allows(self, in_block: bool) -> bool
         ensures { result ≡ version_allows self in_block }
     {
-        let number = self.number;
-        if number == Self::FIRST {
-            !in_block
-        } else {
-            number == Self::STREAMING
-        }
+        self.is_known() && (!in_block || Self::STREAMING <= self.number)
     }
 
-    // Whether this version is known and has the kind of this number.
-    pub fn has(self, kind: u8) -> bool
-        ensures { result ≡ version_has self (kind_numbered kind) }
+    // Whether this version is known and has a kind; what is no kind it has not.
+    #[tactic(auto, unfolding(crate::specs::Versions::version_has))]
+    pub fn has(self, kind: Option<Kind>) -> bool
+        ensures { result ≡ version_has self kind }
     {
-        let number = self.number;
         match kind {
-            kind::BEGIN..=kind::MESSAGE => {
-                if number == Self::FIRST {
-                    true
-                } else {
-                    number == Self::STREAMING
-                }
-            }
-            kind::STREAM_START..=kind::STREAM_ABORT => number == Self::STREAMING,
-            _ => false,
+            None => false,
+            Some(kind) => self.is_known() && kind.first_version() <= self.number,
         }
     }
 }
+
+// Letters, flags and xids are numbers as the bytes have them, 0 for an xid that is not there, and no enum or Option: `write_message` promises
+// what writing answers for any of them, its refusal where the layout forbids it.
 
 // Texts, contents and values are parts of the message's bytes. A tuple, a Relation's columns and a Truncate's OIDs lie
 // in their layout from an offset on. An `xid` that only stands inside a stream block is 0 elsewhere.
@@ -197,27 +197,4 @@ pub enum Message {
     StreamStop,
     StreamCommit(StreamCommit),
     StreamAbort { xid: u32, sub_xid: u32 },
-}
-
-// What reading gives.
-#[derive(Clone, Copy)]
-pub enum Read {
-    Message(Message),
-    Refused(Refusal),
-}
-
-// The number of the kind that a first byte names, and 0 for each other byte. An entry at a constant place is known when this is
-// compiled; for any other place the table is laid on the stack first, so the letters of most messages stand here.
-pub fn kind_of(letter: u8) -> u8
-    ensures { result ≡ kind_number (kind_of letter) }
-{
-    match letter {
-        b'I' => kind::OF_LETTER[b'I' as usize],
-        b'U' => kind::OF_LETTER[b'U' as usize],
-        b'D' => kind::OF_LETTER[b'D' as usize],
-        b'B' => kind::OF_LETTER[b'B' as usize],
-        b'C' => kind::OF_LETTER[b'C' as usize],
-        b'R' => kind::OF_LETTER[b'R' as usize],
-        _ => kind::OF_LETTER[letter as usize],
-    }
 }

@@ -3,8 +3,7 @@ use Prim.Native.Nat.{ℕ, zero, suc, ◌-◌, ◌<◌, ◌≤◌}
 use mathlib.Core.List.{List}
 use mathlib.Core.Path.{◌≡◌, refl, ap, sym, ◌∙◌}
 use native.Mathlib.Omega.{arith}
-use Rattle.wire.specs.declared.Cursor.{Cursor}
-use Rattle.wire.specs.declared.Cursor.TheVariants.{Refused}
+use Rattle.wire.specs.Cursors.{Cursor, refuse}
 use Rattle.message.specs.Layout.{Field, read_group, times, groups_end}
 
 module _ (fs : List Field) (xs : List ℕ) where
@@ -23,14 +22,14 @@ module _ (fs : List Field) (xs : List ℕ) where
   done n h inv = let z : n ≡ 0 = omega arith in rw z at inv
 
   -- a refusal passes through the groups that are left
-  stays : (k o : ℕ) → (read_group fs xs (Refused k o)).next ≡ Refused k o → (n : ℕ) → groups_end fs xs n (Refused k o) ≡ Refused k o
+  stays : (k o : ℕ) → (read_group fs xs (refuse k o)).next ≡ refuse k o → (n : ℕ) → groups_end fs xs n (refuse k o) ≡ refuse k o
   unfolding groups_end
   stays k o e zero = refl
   stays k o e (suc n) = ap (times n (λ (d : Cursor). (read_group fs xs d).next)) e ∙ stays k o e n
 
   -- the end of the loop at a refusal
   pub refused :
-      (n : ℕ) (c : Cursor) {d whole : Cursor} {k o : ℕ} → 0 < n → (read_group fs xs (Refused k o)).next ≡ Refused k o → d ≡ (read_group fs xs c).next → d ≡ Refused k o
+      (n : ℕ) (c : Cursor) {d whole : Cursor} {k o : ℕ} → 0 < n → (read_group fs xs (refuse k o)).next ≡ refuse k o → d ≡ (read_group fs xs c).next → d ≡ refuse k o
       → groups_end fs xs n c ≡ whole → d ≡ whole
   refused n c {d} {whole} {k} {o} h s e r inv =
       let q : groups_end fs xs (n - 1) d ≡ whole = turn n c h e inv in

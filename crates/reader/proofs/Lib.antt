@@ -1,6 +1,6 @@
 pub mod Top
-pub mod End
 pub mod Groups
 pub mod Fast
 pub mod Offset
+pub mod Stops
 pub mod OldTuples

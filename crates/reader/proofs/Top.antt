@@ -2,19 +2,21 @@
 use Prim.Native.Nat.{ℕ, ◌<◌, ◌≤◌}
 use mathlib.Core.List.{List}
 use mathlib.Core.Bool.{Bool, true, false, not, ◌&&◌, ◌||◌}
-use mathlib.Core.Option.{Option, some}
+use Rattle.std.specs.Prelude.{Option, Some}
 use mathlib.Core.Path.{◌≡◌, refl, ap, sym, ◌∙◌}
 use borrow.Author.Tests.{lt-ltb, le-ltb, eq-eqb, ne_eqb}
 use lib.Dec.{leb}
 use lib.ListN.{length, get_or}
 use Rattle.message.specs.declared.Version.{Version}
-use Rattle.message.specs.Kinds.{Kind, first_version, letter_of, kind_of}
+use Rattle.message.specs.declared.kinds.Kind.{Kind}
+use Rattle.message.specs.Kinds.{first_version, letter_of, kind_of}
 use Rattle.message.specs.Versions.{version_allows, version_has}
-use Rattle.message.specs.Messages.{largest, refuse, read_kind, read_named, read_message}
+use Rattle.wire.specs.Cursors.{refuse}
+use Rattle.message.specs.Messages.{largest, read_kind, read_named, read_message}
 use Rattle.message.proofs.Letters.{of_letter}
 
 -- a version that allows anything has the kinds of version 1
-has_first : (v : Version) (b : Bool) (k : Kind) → first_version k ≡ 1 → version_allows v b ≡ true → version_has v (some k) ≡ true
+has_first : (v : Version) (b : Bool) (k : Kind) → first_version k ≡ 1 → version_allows v b ≡ true → version_has v (Some k) ≡ true
 unfolding version_allows version_has
 has_first v b k f h = rw f (go (leb 1 v.number) (leb v.number 2) (not b || leb 2 v.number) h)
   where
@@ -52,5 +54,5 @@ module _ (v : Version) (b : Bool) (xs : List ℕ) where
         by_letter k f n =
             ap (λ (o : Option Kind). read_named o b xs) (sym is) ∙ by_kind (ap (version_has v) is ∙ has_first v b k f h)
           where
-            is : kind_of (get_or xs 0 0) ≡ some k
+            is : kind_of (get_or xs 0 0) ≡ Some k
             is = ap kind_of n ∙ of_letter k

@@ -1,2 +1,3 @@
 pub mod Old
 pub mod Offset
+pub mod Passed

@@ -1,48 +1,32 @@
+#![tactic(auto, using(crate::proofs::Stops::tuple_stays, crate::proofs::Stops::groups_stay), unfolding(crate::specs::Old::old_field, message::specs::Layout::optional, message::specs::Messages::read_kind, message::specs::Layout::xid_field, wire::specs::Fields::number_field, wire::specs::Fields::letter_field, wire::specs::Fields::text_field, wire::specs::Fields::bytes_field, wire::specs::Fields::value_field))]
 // The messages that a transaction's work makes: Insert, Update, Delete, Truncate and the logical message.
 ghost use Rattle.std.specs.Prelude.{◌≡◌, [], ◌∷◌};
 ghost use Rattle.message.specs.Layout.{id, groups_end};
 ghost use Rattle.message.specs.Kinds.{insert, update, delete, truncate, message};
 ghost use Rattle.message.specs.Messages.{read_kind};
 
-use crate::{OldField, framing, tuples};
-use message::{Delete, Insert, LogicalMessage, Message, Read, Truncate, Update, fields};
-use wire::{Cursor, Field8, Field32, Field64, FieldSpan, Refusal};
+use crate::passing::{RelationOid, groups_end};
+use crate::{framing, tuples};
+use message::{Delete, Insert, LogicalMessage, Message, Truncate, Update, fields};
+use wire::{Cursor, Reader, Refusal};
 
-// The end of `n` OIDs of a Truncate. A refusal ends the loop, however many are left.
+// The end of `n` OIDs of a Truncate.
 pub fn relation_oids(s: &[u8], c: Cursor, n: u32) -> Cursor
     ensures { result ≡ groups_end (id ∷ []) s.now n c }
 {
-    let mut left = n;
-    let mut at = c;
-    while 0 < left {
-        let Field32 { value: _, next } = fields::id(s, at);
-        if let Cursor::Refused {
-            number: _,
-            offset: _,
-        } = next
-        {
-            return next;
-        }
-        at = next;
-        left -= 1;
-    }
-    at
+    groups_end::<RelationOid>(s, c, n)
 }
 
-pub fn read_insert(s: &[u8], in_block: bool) -> Read
+pub fn read_insert(s: &[u8], in_block: bool) -> Result<Message, Refusal>
     ensures { result ≡ read_kind insert in_block s.now }
 {
-    let Field32 { value: xid, next } = framing::block_xid(s, Cursor::At(1), in_block);
-    let Field32 {
-        value: relation,
-        next,
-    } = fields::id(s, next);
-    let Field8 { value: _, next } = wire::letter(s, next, b"N");
-    let tuple = wire::position(next);
-    let next = tuples::tuple_after(s, next);
+    let mut r = Reader::at(s, 1);
+    let xid = framing::block_xid(&mut r, in_block)?;
+    let relation = fields::id(&mut r)?;
+    r.letter(b"N")?;
+    let tuple = tuples::tuple(&mut r)?;
     framing::settle(
-        s,
-        next,
+        &r,
         Message::Insert(Insert {
             xid,
             relation,
@@ -51,21 +35,17 @@ pub fn read_insert(s: &[u8], in_block: bool) -> Read
     )
 }
 
-pub fn read_update(s: &[u8], in_block: bool) -> Read
+pub fn read_update(s: &[u8], in_block: bool) -> Result<Message, Refusal>
     ensures { result ≡ read_kind update in_block s.now }
 {
-    let Field32 { value: xid, next } = framing::block_xid(s, Cursor::At(1), in_block);
-    let Field32 {
-        value: relation,
-        next,
-    } = fields::id(s, next);
-    let OldField { value: old, next } = tuples::old_tuple(s, next);
-    let Field8 { value: _, next } = wire::letter(s, next, b"N");
-    let tuple = wire::position(next);
-    let next = tuples::tuple_after(s, next);
+    let mut r = Reader::at(s, 1);
+    let xid = framing::block_xid(&mut r, in_block)?;
+    let relation = fields::id(&mut r)?;
+    let old = tuples::old_tuple(&mut r)?;
+    r.letter(b"N")?;
+    let tuple = tuples::tuple(&mut r)?;
     framing::settle(
-        s,
-        next,
+        &r,
         Message::Update(Update {
             xid,
             relation,
@@ -75,20 +55,16 @@ pub fn read_update(s: &[u8], in_block: bool) -> Read
     )
 }
 
-pub fn read_delete(s: &[u8], in_block: bool) -> Read
+pub fn read_delete(s: &[u8], in_block: bool) -> Result<Message, Refusal>
     ensures { result ≡ read_kind delete in_block s.now }
 {
-    let Field32 { value: xid, next } = framing::block_xid(s, Cursor::At(1), in_block);
-    let Field32 {
-        value: relation,
-        next,
-    } = fields::id(s, next);
-    let Field8 { value: image, next } = wire::letter(s, next, b"KO");
-    let tuple = wire::position(next);
-    let next = tuples::tuple_after(s, next);
+    let mut r = Reader::at(s, 1);
+    let xid = framing::block_xid(&mut r, in_block)?;
+    let relation = fields::id(&mut r)?;
+    let image = r.letter(b"KO")?;
+    let tuple = tuples::tuple(&mut r)?;
     framing::settle(
-        s,
-        next,
+        &r,
         Message::Delete(Delete {
             xid,
             relation,
@@ -98,26 +74,17 @@ pub fn read_delete(s: &[u8], in_block: bool) -> Read
     )
 }
 
-pub fn read_truncate(s: &[u8], in_block: bool) -> Read
+pub fn read_truncate(s: &[u8], in_block: bool) -> Result<Message, Refusal>
     ensures { result ≡ read_kind truncate in_block s.now }
 {
-    let Field32 { value: xid, next } = framing::block_xid(s, Cursor::At(1), in_block);
-    let Field32 { value: count, next } = wire::number32(
-        s,
-        next,
-        1,
-        message::MOST_RELATIONS,
-        Refusal::RANGE,
-    );
-    let Field8 {
-        value: options,
-        next,
-    } = wire::number8(s, next, 0, 3, Refusal::FIELD);
-    let relations = wire::position(next);
-    let next = relation_oids(s, next, count);
+    let mut r = Reader::at(s, 1);
+    let xid = framing::block_xid(&mut r, in_block)?;
+    let count = r.number::<u32>(1, message::MOST_RELATIONS, Refusal::RANGE)?;
+    let options = r.number::<u8>(0, 3, Refusal::FIELD)?;
+    let relations = r.next?;
+    r.next = relation_oids(s, r.next, count);
     framing::settle(
-        s,
-        next,
+        &r,
         Message::Truncate(Truncate {
             xid,
             count,
@@ -127,23 +94,17 @@ pub fn read_truncate(s: &[u8], in_block: bool) -> Read
     )
 }
 
-pub fn read_logical_message(s: &[u8], in_block: bool) -> Read
+pub fn read_logical_message(s: &[u8], in_block: bool) -> Result<Message, Refusal>
     ensures { result ≡ read_kind message in_block s.now }
 {
-    let Field32 { value: xid, next } = framing::block_xid(s, Cursor::At(1), in_block);
-    let Field8 { value: flags, next } = wire::number8(s, next, 0, 1, Refusal::FIELD);
-    let Field64 { value: lsn, next } = wire::number64(s, next, 0, u64::MAX, Refusal::FIELD);
-    let FieldSpan {
-        value: prefix,
-        next,
-    } = wire::text(s, next);
-    let FieldSpan {
-        value: content,
-        next,
-    } = wire::value(s, next);
+    let mut r = Reader::at(s, 1);
+    let xid = framing::block_xid(&mut r, in_block)?;
+    let flags = r.number::<u8>(0, 1, Refusal::FIELD)?;
+    let lsn = r.number::<u64>(0, u64::MAX, Refusal::FIELD)?;
+    let prefix = r.text()?;
+    let content = r.value()?;
     framing::settle(
-        s,
-        next,
+        &r,
         Message::Message(LogicalMessage {
             xid,
             flags,

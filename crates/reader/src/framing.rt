@@ -1,37 +1,34 @@
 // What stands around a message's own fields: the xid inside a stream block before them, and the end after them.
 ghost use Rattle.std.specs.Prelude.{◌≡◌};
+ghost use Rattle.wire.specs.Readers.{Reads};
 ghost use Rattle.message.specs.Layout.{xid_field};
 ghost use Rattle.message.specs.Messages.{finished, settled};
 
-use message::{Message, Read, fields};
-use wire::{Cursor, Field32, Refusal};
+use message::{Message, fields};
+use wire::{Reader, Refusal};
 
 // The message, unless reading was refused or bytes are left over.
-pub fn settle(s: &[u8], c: Cursor, m: Message) -> Read
-    ensures { result ≡ settled (finished s.now c) m }
+pub fn settle(r: &Reader, m: Message) -> Result<Message, Refusal>
+    ensures { result ≡ settled (finished r.now.bytes.now r.now.next) m }
 {
-    match c {
-        Cursor::Refused { number, offset } => Read::Refused(Refusal { number, offset }),
-        Cursor::At(at) => {
-            if at == s.len() {
-                Read::Message(m)
-            } else {
-                Read::Refused(Refusal {
-                    number: Refusal::LEFT_OVER,
-                    offset: at,
-                })
-            }
-        }
+    let at = r.next?;
+    if at != r.bytes.len() {
+        return Err(Refusal {
+            number: Refusal::LEFT_OVER,
+            offset: at,
+        });
     }
+    Ok(m)
 }
 
 // The xid of a message inside a stream block; elsewhere 0, and no byte is read.
-pub fn block_xid(s: &[u8], c: Cursor, in_block: bool) -> Field32
-    ensures { result ≡ xid_field in_block s.now c }
+#[tactic(auto, unfolding(message::specs::Layout::xid_field))]
+pub fn block_xid(r: &mut Reader, in_block: bool) -> Result<u32, Refusal>
+    ensures { Reads (xid_field in_block r.old.bytes.now r.old.next) r.old result r.new }
 {
     if in_block {
-        fields::id(s, c)
-    } else {
-        Field32 { value: 0, next: c }
+        return fields::id(r);
     }
+    r.next?;
+    Ok(0)
 }

@@ -7,8 +7,8 @@ use lib.Dec.{eqb, leb}
 use borrow.Author.Tests.{eq-eqb, ne_eqb, eqb-true, eqb-false}
 use Rattle.session.specs.declared.Place.{Place}
 use Rattle.session.specs.declared.Place.TheVariants.{Idle, Transaction, Block}
-use Rattle.session.specs.declared.Answer.{Answer}
-use Rattle.session.specs.declared.Answer.TheVariants as answer
+use Rattle.session.specs.Answers.{Answer}
+use Rattle.session.specs.Answers as answer
 use Rattle.session.specs.Events.{Event, Begin, Commit, Origin, Relation, Change, Truncate, Neutral, Logical, StreamStart, StreamStop, StreamCommit, StreamAbort}
 use Rattle.session.specs.History.{unannounced, is_announced, or_else, Given, tag_of, shown, entry, History, place, is_idle, holder_at, is_open, open_count, is_changed, latest, live_count}
 use Rattle.session.specs.Rules.{rooms, sight_of, test, rule_relation, rule_stream_start, rule_stream_end, judge, accepts}

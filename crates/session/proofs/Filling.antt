@@ -15,7 +15,7 @@ use Rattle.catalog.proofs.Tables.{same_eq, same_refl}
 use Rattle.catalog.proofs.Counting.{bit, length_by_counts}
 use Rattle.session.specs.declared.Place.{Place}
 use Rattle.session.specs.declared.Place.TheVariants.{Idle, Block}
-use Rattle.session.specs.declared.Answer.TheVariants as answer
+use Rattle.session.specs.Answers as answer
 use Rattle.session.specs.Events.{Event, Origin, Relation, Change, Truncate, Neutral, Logical, StreamStart, StreamStop}
 use Rattle.session.specs.History.{Announced, is_announced, or_else, Given, entry, Entry, History, shown, place, is_open, started, open_count, common, latest, pairs, is_live, live_count}
 use Rattle.session.specs.Rules.{rooms, sight_of, visible, rule_origin, rule_change, rule_truncate, rule_neutral, rule_logical, rule_stream_stop, judge, accepts}

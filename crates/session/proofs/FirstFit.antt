@@ -14,12 +14,12 @@ use Rattle.catalog.proofs.Tables.{same_eq, same_refl}
 use Rattle.session.specs.FirstFit.{Row, row, key_is, is_free, is_used, found_in, lookup_in, free_row, released, first_fit, put_row, dropped}
 use Rattle.message.specs.declared.Version.{Version}
 use Rattle.message.specs.declared.Message.{Message}
-use Rattle.message.specs.declared.Read.{Read}
-use Rattle.message.specs.declared.Read.TheVariants as read
+use Rattle.message.specs.Messages.{Read}
+use Rattle.std.specs.Prelude.{Ok, Err}
 use Rattle.message.specs.Messages.{read_message}
 use Rattle.session.specs.declared.Place.{Place}
 use Rattle.session.specs.declared.Place.TheVariants.{Idle, Transaction, Block}
-use Rattle.session.specs.declared.Answer.{Answer}
+use Rattle.session.specs.Answers.{Answer}
 use Rattle.session.specs.Events.{Event, Begin, Commit, Origin, Relation, Change, Truncate, Neutral, Logical, StreamStart, StreamStop, StreamCommit, StreamAbort, event_of}
 use Rattle.session.specs.History.{Announced, unannounced, announced, is_announced, or_else, Given, given, is_idle, in_block, holder_at}
 use Rattle.session.specs.Rules.{visible_at, visible, test, shaped, all_seen, first_seen, rule_relation, rule_change, accepts, heard_of}
@@ -278,10 +278,10 @@ plain_run v (given xs g ∷ l) s = one (read_message v (in_block s.place) xs) (�
         → x ∷ run_by guarded v (cond (accepts x) n s) l ≡ y ∷ run_by first_fit v (cond (accepts y) m s) l
     step r x y ex n m en = rw (ex, en) (ap (λ (t : List Answer). y ∷ t) (r (cond (accepts y) m s)))
 
-    one : (r : Read) → ((m : Message) → r ≡ read.Message m → Named (event_of m xs)) → ((s : StateOf (List Row)) → run_by guarded v s l ≡ run_by first_fit v s l)
+    one : (r : Read) → ((m : Message) → r ≡ Ok m → Named (event_of m xs)) → ((s : StateOf (List Row)) → run_by guarded v s l ≡ run_by first_fit v s l)
         → answer_heard guarded s (heard_of r xs) ∷ run_by guarded v (state_heard guarded s (heard_of r xs) g) l
         ≡ answer_heard first_fit s (heard_of r xs) ∷ run_by first_fit v (state_heard first_fit s (heard_of r xs) g) l
-    one (read.Refused k) f r = ap (λ (t : List Answer). answer_heard first_fit s (heard_of (read.Refused k) xs) ∷ t) (r s)
-    one (read.Message m) f r =
+    one (Err k) f r = ap (λ (t : List Answer). answer_heard first_fit s (heard_of (Err k) xs) ∷ t) (r s)
+    one (Ok m) f r =
         step r (answer_by guarded s (event_of m xs)) (answer_by first_fit s (event_of m xs)) (plain_answer s (event_of m xs) (f m refl)) (state_by guarded s (event_of m xs) g) (state_by first_fit s (event_of m xs) g)
         (plain_state s (event_of m xs) g)

@@ -7,13 +7,14 @@ use native.Mathlib.Omega.{arith}
 use lib.ListN.{length}
 use lib.Dec.{eqb, leb}
 use Rattle.message.specs.declared.Version.{Version}
-use Rattle.message.specs.declared.Read.{Read}
-use Rattle.message.specs.declared.Read.TheVariants as read
+use Rattle.message.specs.Messages.{Read}
+use Rattle.std.specs.Prelude.{Ok, Err}
 use Rattle.message.specs.Messages.{read_message}
 use Rattle.message.proofs.InRange.{InRange, read_in_range}
 use Rattle.session.specs.declared.Place.{Place}
-use Rattle.session.specs.declared.Answer.{Answer}
-use Rattle.session.specs.declared.Answer.TheVariants as answer
+use Rattle.std.specs.Prelude.{Ok, Err}
+use Rattle.session.specs.Answers.{Answer}
+use Rattle.session.specs.Answers as answer
 use Rattle.session.specs.declared.Session.{Session}
 use Rattle.session.specs.Events.{Event, Begin, Commit, Origin, Relation, Change, Truncate, Neutral, Logical, StreamStart, StreamStop, StreamCommit, StreamAbort, Tuple}
 use Rattle.session.specs.History.{Given, given, History, place, Announced, unannounced, announced, is_idle, in_transaction, in_block, final_lsn, is_announced, holder_at}
@@ -43,9 +44,8 @@ RunInRange = (s : Session) (l : List Given) → EachAnswered l (run s l)
 -- ONE ANSWER
 
 abbrev Told : ℕ → Answer → Type 0
-Told end answer.Accepted = Unit {0}
-Told end (answer.Change g i c) = Unit {0}
-Told end (answer.Refused n o) = InRange 12 end n o
+Told end (Ok c) = Unit {0}
+Told end (Err r) = InRange 12 end r.number r.offset
 
 module _ (end : ℕ) where
   refuse-told : (n : ℕ) → 1 ≤ n → n ≤ 12 → Told end (refuse n)
@@ -111,8 +111,8 @@ hears-told : (v : Version) (p : Place) (xs : List ℕ) → HeardIn xs (hears v p
 hears-told v p xs = go (read_message v (in_block p) xs) refl
   where
     go : (r : Read) → read_message v (in_block p) xs ≡ r → HeardIn xs (heard_of r xs)
-    go (read.Message m) e = tt
-    go (read.Refused r) e =
+    go (Ok m) e = tt
+    go (Err r) e =
         let i = read_in_range v (in_block p) xs r.number r.offset e in
         record { from_one = i.from_one; to_last = omega (arith, i.to_last); inside = i.inside }
 

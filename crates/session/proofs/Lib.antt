@@ -19,7 +19,6 @@ pub mod Named
 pub mod FirstFit
 pub mod SameAnswers
 pub mod Visible
-pub mod Shapes
 pub mod Oids
 pub mod Stores
 pub mod Listings

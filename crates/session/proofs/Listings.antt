@@ -1,31 +1,38 @@
 -- Messages in one slice, given one after another. Assumes nothing.
 use Prim.Native.Nat.{ℕ, zero, suc, ◌+◌, ◌-◌, ◌<◌, ◌≤◌}
 use mathlib.Core.List.{List, [], ◌∷◌}
-use mathlib.Core.Path.{◌≡◌, refl}
+use mathlib.Core.Bool.{Bool, true, false, cond, ◌&&◌}
+use mathlib.Core.Logic.{◌⊎◌, inl, inr}
+use mathlib.Core.Path.{◌≡◌, refl, ◌∙◌}
+use denote.Bor.{Bor}
+use Rattle.std.specs.Prelude.{Option, Some, None, unwrap_or, leb}
+use Rattle.std.specs.Slice.{IsGetRangeResult}
 use native.Mathlib.Numerals.{add-one}
 use borrow.Author.Tests.{le-leb, lt-leb}
 use lib.ListN.{length, take, drop, get_or, drop_of_length-le}
 use lib.Seq.{drop-cons}
 use Rattle.wire.specs.Lists.{first, rest}
-use Rattle.session.specs.declared.Answer.{Answer}
+use Rattle.session.specs.Answers.{Answer}
 use Rattle.session.specs.declared.Session.{Session}
 use Rattle.session.specs.declared.Stepped.{Stepped}
 use Rattle.session.specs.Machine.{step_of}
 use Rattle.session.specs.Runs.{run}
 use Rattle.session.specs.Listed.{between, messages_in, last_or}
 
-module _ (start end : ℕ) (xs : List ℕ) where
-  pub reversed : end < start → between start end xs ≡ []
-  unfolding between
-  reversed h = rw (lt-leb start end h)
-
-  pub past : start ≤ end → length xs < end → between start end xs ≡ []
-  unfolding between
-  past h l = rw (le-leb start end h, lt-leb end (length xs) l)
-
-  pub inside : start ≤ end → end ≤ length xs → between start end xs ≡ take (end - start) (drop start xs)
-  unfolding between
-  inside h l = rw (le-leb start end h, le-leb end (length xs) l)
+-- what lies between two places of a slice, as `get` finds it
+pub part_is : (start end : ℕ) (xs : List ℕ) (r : Option (Bor (List ℕ))) (none : Bor (List ℕ)) → none.now ≡ [] → IsGetRangeResult xs start end r
+    → (unwrap_or r none).now ≡ between start end xs
+unfolding between
+part_is start end xs (Some x) none e h = rw (le-leb start end h.0.0, le-leb end (length xs) h.0.1) h.0.2
+part_is start end xs None none e h = e ∙ go h.0
+  where
+    go : (end < start) ⊎ (length xs < end) → [] ≡ between start end xs
+    go (inl k) = rw (lt-leb start end k)
+    go (inr k) = elsewhere (leb start end)
+      where
+        elsewhere : (v : Bool) → [] ≡ cond (v && leb end (length xs)) (take (end - start) (drop start xs)) []
+        elsewhere true = rw (lt-leb end (length xs) k)
+        elsewhere false = refl
 
 first-drop : (l : List ℕ) (i : ℕ) → first (drop i l) ≡ get_or l i 0
 first-drop [] zero = refl

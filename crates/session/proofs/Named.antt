@@ -3,14 +3,14 @@ use Prim.Native.Nat.{ℕ, zero, suc}
 use mathlib.Core.List.{List, [], ◌∷◌}
 use mathlib.Core.Bool.{Bool}
 use mathlib.Core.Path.{◌≡◌}
-use Rattle.wire.specs.declared.Cursor.{Cursor}
-use Rattle.wire.specs.declared.Cursor.TheVariants.{At}
+use Rattle.wire.specs.Cursors.{Cursor}
+use Rattle.std.specs.Prelude.{Ok}
 use Rattle.wire.specs.Fields.{position_of}
 use Rattle.message.specs.declared.Version.{Version}
 use Rattle.message.specs.declared.Message.{Message}
-use Rattle.message.specs.declared.Read.TheVariants as read
 use Rattle.message.specs.Layout.{id, number_of, one, tuple, optional_tuple, text, letter, groups_end, read_fields}
-use Rattle.message.specs.Kinds.{Kind, begin, commit, origin, relation, type, insert, update, delete, truncate, message, stream_start, stream_stop, stream_commit, stream_abort, layout, identity, columns, new, key_or_old}
+use Rattle.message.specs.declared.kinds.Kind.{Kind}
+use Rattle.message.specs.Kinds.{begin, commit, origin, relation, type, insert, update, delete, truncate, message, stream_start, stream_stop, stream_commit, stream_abort, layout, identity, columns, new, key_or_old}
 use Rattle.message.specs.Messages.{message_of, read_message}
 use Rattle.message.proofs.Accepted.{reached, accepted}
 use Rattle.message.proofs.Local.{groups_local}
@@ -36,7 +36,7 @@ Named (StreamCommit x) = Unit {0}
 Named (StreamAbort x sub) = Unit {0}
 
 module _ (b : Bool) (xs : List ℕ) where
-  oids_then : (n : ℕ) (c : Cursor) (e : ℕ) → groups_end (id ∷ []) xs n c ≡ At e → AllNonZero (oids_at n xs c)
+  oids_then : (n : ℕ) (c : Cursor) (e : ℕ) → groups_end (id ∷ []) xs n c ≡ Ok e → AllNonZero (oids_at n xs c)
   unfolding groups_end
   oids_then zero c e q = tt
   oids_then (suc n) c e q =
@@ -44,12 +44,12 @@ module _ (b : Bool) (xs : List ℕ) where
       let r = reached (groups_end (id ∷ []) xs n) ((groups_local (id ∷ []) n).stays xs) d q in
       ((id_then b xs [] c r.0 r.1).0, oids_then n d e q)
 
-  relations_then : (n : ℕ) (c : Cursor) (e : ℕ) → groups_end (id ∷ []) xs n c ≡ At e → AllNonZero (oids_at n xs (At (position_of c)))
+  relations_then : (n : ℕ) (c : Cursor) (e : ℕ) → groups_end (id ∷ []) xs n c ≡ Ok e → AllNonZero (oids_at n xs (Ok (position_of c)))
   relations_then n c e q =
       let r = reached (groups_end (id ∷ []) xs n) ((groups_local (id ∷ []) n).stays xs) c q in
-      rw r.1 (oids_then n (At r.0) e (rw r.1 at q))
+      rw r.1 (oids_then n (Ok r.0) e (rw r.1 at q))
 
-  kind-named : (k : Kind) (e : ℕ) → (read_fields b (layout k) xs (At 1)).next ≡ At e → Named (event_of (message_of k (read_fields b (layout k) xs (At 1)).parts) xs)
+  kind-named : (k : Kind) (e : ℕ) → (read_fields b (layout k) xs (Ok 1)).next ≡ Ok e → Named (event_of (message_of k (read_fields b (layout k) xs (Ok 1)).parts) xs)
   kind-named begin e q = tt
   kind-named commit e q = tt
   kind-named origin e q = tt
@@ -65,5 +65,5 @@ module _ (b : Bool) (xs : List ℕ) where
   kind-named stream_commit e q = tt
   kind-named stream_abort e q = tt
 
-  pub read_named_lem : (v : Version) (m : Message) → read_message v b xs ≡ read.Message m → Named (event_of m xs)
+  pub read_named_lem : (v : Version) (m : Message) → read_message v b xs ≡ Ok m → Named (event_of m xs)
   read_named_lem v m q = let a = accepted v b xs m q in rw a.message (kind-named a.kind _ a.ends)

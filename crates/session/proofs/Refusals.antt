@@ -8,8 +8,8 @@ use Rattle.message.specs.Versions.{is_known, version_allows}
 use Rattle.message.specs.Messages.{read_message}
 use Rattle.session.specs.declared.Place.{Place}
 use Rattle.session.specs.declared.Place.TheVariants.{Idle}
-use Rattle.session.specs.declared.Answer.{Answer}
-use Rattle.session.specs.declared.Answer.TheVariants as answer
+use Rattle.session.specs.Answers.{Answer}
+use Rattle.session.specs.Answers as answer
 use Rattle.session.specs.declared.Session.{Session}
 use Rattle.session.specs.History.{Given, given, History, place}
 use Rattle.session.specs.Rules.{rooms, accepts, Heard, unread, heard, hears, answer_to, history_after, answers_by, history_by, answers, past}

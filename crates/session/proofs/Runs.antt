@@ -9,12 +9,12 @@ use lib.ListN.{length, get_or}
 use Rattle.catalog.specs.Table.{Small}
 use Rattle.message.specs.declared.Version.{Version}
 use Rattle.message.specs.declared.Message.{Message}
-use Rattle.message.specs.declared.Read.{Read}
-use Rattle.message.specs.declared.Read.TheVariants as read
+use Rattle.message.specs.Messages.{Read}
+use Rattle.std.specs.Prelude.{Ok, Err}
 use Rattle.message.specs.Messages.{read_message}
 use Rattle.session.specs.declared.Place.{Place}
 use Rattle.session.specs.declared.Place.TheVariants.{Idle, Transaction, Block}
-use Rattle.session.specs.declared.Answer.{Answer}
+use Rattle.session.specs.Answers.{Answer}
 use Rattle.session.specs.declared.Session.{Session}
 use Rattle.session.specs.declared.Stepped.{Stepped}
 use Rattle.session.specs.Events.{Event, Begin, Commit, Origin, Relation, Change, Truncate, Neutral, Logical, StreamStart, StreamStop, StreamCommit, StreamAbort, event_of}
@@ -37,9 +37,9 @@ Well xs (heard e) = Formed e × Small (length xs)
 pub hears_well : (v : Version) (p : Place) (xs : List ℕ) → Well xs (hears v p xs)
 hears_well v p xs = go (read_message v (in_block p) xs) (λ m q. (read_formed (in_block p) xs v m q, read_short (in_block p) xs v m q))
   where
-    go : (r : Read) → ((m : Message) → r ≡ read.Message m → Formed (event_of m xs) × Small (length xs)) → Well xs (heard_of r xs)
-    go (read.Refused k) f = tt
-    go (read.Message m) f = f m refl
+    go : (r : Read) → ((m : Message) → r ≡ Ok m → Formed (event_of m xs) × Small (length xs)) → Well xs (heard_of r xs)
+    go (Err k) f = tt
+    go (Ok m) f = f m refl
 
 -- WHATEVER THE LAYOUT, as long as it has the laws: the answer is the rules', and the next state agrees with the history after it
 module _ (L : Layout) (laws : Lawful L) where

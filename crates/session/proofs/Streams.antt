@@ -7,7 +7,8 @@ use lib.Dec.{eqb, leb}
 use borrow.Author.Tests.{eqb-true}
 use Rattle.wire.specs.Lists.{any, tally, keep, distinct}
 use Rattle.catalog.specs.Table.{is}
-use Rattle.catalog.specs.Opens.{Streams, fresh_streams, is_open_in, open_count_in, changed_in, open_in, close_in, mark_in}
+use Rattle.catalog.specs.declared.streams.Streams.{Streams}
+use Rattle.catalog.specs.Opens.{fresh_streams, is_open_in, open_count_in, changed_in, open_in, close_in, mark_in}
 use Rattle.catalog.proofs.Counting.{bit, tally-keep, tally-distinct}
 use Rattle.catalog.proofs.Opens as law
 use Rattle.catalog.proofs.Opens.{Sound, is_eq, is_refl}

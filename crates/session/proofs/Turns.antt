@@ -7,15 +7,13 @@ use borrow.Author.Tests.{ne_eqb}
 use lib.Dec.{eqb}
 use lib.ListN.{length, drop}
 use lib.Seq.{drop_at}
-use Rattle.wire.specs.declared.Cursor.TheVariants.{At}
+use Rattle.std.specs.Prelude.{Ok, Err}
 use Rattle.message.specs.declared.Version.{Version}
 use Rattle.message.specs.declared.Message.{Message}
 use Rattle.message.specs.declared.Message.TheVariants as m
-use Rattle.message.specs.declared.Read.{Read}
-use Rattle.message.specs.declared.Read.TheVariants as read
+use Rattle.message.specs.Messages.{Read, read_message}
 use Rattle.message.specs.Layout.{read_fields}
 use Rattle.message.specs.Kinds.{stream_start, layout}
-use Rattle.message.specs.Messages.{read_message}
 use Rattle.message.specs.Encode.{kind_of_message}
 use Rattle.message.proofs.Parts.{kind_back}
 use Rattle.message.proofs.Accepted.{accepted}
@@ -65,13 +63,13 @@ pub record Way : Type 1 where
   pub fits_like : (h k : History) → Like h k → Fits h → Fits k
 
 -- a Stream Start is read alike inside and outside of blocks
-start_anywhere : (v : Version) (b : Bool) (xs : List ℕ) (x first : ℕ) (k : Message) → read_message v false xs ≡ read.Message (m.StreamStart x first) → read_message v b xs ≡ read.Message k
+start_anywhere : (v : Version) (b : Bool) (xs : List ℕ) (x first : ℕ) (k : Message) → read_message v false xs ≡ Ok (m.StreamStart x first) → read_message v b xs ≡ Ok k
     → k ≡ m.StreamStart x first
 start_anywhere v b xs x first k p q =
     let a = accepted v false xs (m.StreamStart x first) p in
     let c = accepted v b xs k q in
     let d : c.kind ≡ a.kind = cc (a.letter, c.letter) in
-    let e : a.kind ≡ stream_start = sym (kind_back a.kind (read_fields false (layout a.kind) xs (At 1)).parts) ∙ sym (ap kind_of_message a.message) in
+    let e : a.kind ≡ stream_start = sym (kind_back a.kind (read_fields false (layout a.kind) xs (Ok 1)).parts) ∙ sym (ap kind_of_message a.message) in
     (rw (d ∙ e) at c.message) ∙ sym (rw e at a.message)
 
 module _ (W : Way) where
@@ -274,8 +272,8 @@ module _ (W : Way) (v : Version) where
       q = go (read_message v (in_block (place h)) (bytes_of (W.given_of i))) refl
         where
           go : (r : Read) → read_message v (in_block (place h)) xs ≡ r → heard_of (read_message v (in_block (place h)) xs) xs ≡ heard (StreamStart x (eqb first 1))
-          go (read.Refused r) u = was_heard h i l a (ap (λ (s : Read). heard_of s xs) u)
-          go (read.Message n) u = ap (λ (s : Read). heard_of s xs) u ∙ ap (λ (s : Message). heard (event_of s xs)) (start_anywhere v (in_block (place h)) xs x first n w u)
+          go (Err r) u = was_heard h i l a (ap (λ (s : Read). heard_of s xs) u)
+          go (Ok n) u = ap (λ (s : Read). heard_of s xs) u ∙ ap (λ (s : Message). heard (event_of s xs)) (start_anywhere v (in_block (place h)) xs x first n w u)
 
       t : (W.taken (W.gets h (heard e) i) ≡ true) × (all_taken W (get_all (entry e (W.given_of i) ∷ h) l) ≡ true)
       t = taking h i l e q a

@@ -3,7 +3,7 @@ use mathlib.Core.Path.{◌≡◌, refl, sym, ◌∙◌, ap}
 use mathlib.Core.List.{List, [], ◌∷◌, ◌++◌, map}
 use mathlib.Core.Bool.{Bool, ◌&&◌}
 use Rattle.message.specs.declared.Version.{Version}
-use Rattle.session.specs.declared.Answer.{Answer}
+use Rattle.session.specs.Answers.{Answer}
 use Rattle.session.specs.History.{Given, given, History, place}
 use Rattle.session.specs.Rules.{rooms, accepts, Heard, unread, heard, hears, answer_to, history_after, answers_by, answers, version_of}
 use Rattle.session.specs.Machine.{start_of}

@@ -1,14 +1,12 @@
--- For contracts only. What the session's code hands on: what is heard, with a Change's tuples as numbers and a Truncate's OIDs by where they start; a rule's refusal as its number.
-use Rattle.std.specs.Prelude.{ℕ, ◌%◌, List, [], ◌∷◌, true, false, cond, eqb}
-use Rattle.wire.specs.declared.Cursor.TheVariants.{At}
+-- For contracts only. What the session's code hands on: what is heard, with a Change's tuples as numbers and a Truncate's OIDs by where they start.
+use Rattle.std.specs.Prelude.{ℕ, ◌%◌, List, [], ◌∷◌, true, false, cond, eqb, Result, Ok, Err}
+use Rattle.wire.specs.declared.Refusal.{Refusal}
 use Rattle.session.specs.declared.Tuples.{Tuples}
 use Rattle.session.specs.declared.Act.{Act}
 use Rattle.session.specs.declared.Act.TheVariants as act
 use Rattle.session.specs.declared.Looked.{Looked}
 use Rattle.session.specs.declared.Looked.TheVariants as looked
-use Rattle.session.specs.declared.Answer.{Answer}
-use Rattle.session.specs.declared.Answer.TheVariants as answer
-use Rattle.session.specs.Rules.{refuse, Heard, unread, heard}
+use Rattle.session.specs.Rules.{Heard, unread, heard}
 use Rattle.session.specs.Events.{Event, Begin, Commit, Origin, Relation, Change, Truncate, Neutral, Logical, StreamStart, StreamStop, StreamCommit, StreamAbort, Tuple, tuple, oids_at}
 
 -- an old tuple whose letter is 0 is none
@@ -20,7 +18,7 @@ event_in (act.Begin lsn x) xs = Begin lsn x
 event_in (act.Commit lsn) xs = Commit lsn
 event_in act.Origin xs = Origin
 event_in (act.Relation o s) xs = Relation o (s.identity % 256) (s.columns % 65536)
-event_in (act.Truncate count start x) xs = Truncate x (oids_at count xs (At start))
+event_in (act.Truncate count start x) xs = Truncate x (oids_at count xs (Ok start))
 event_in act.Neutral xs = Neutral
 event_in act.Transactional xs = Logical true
 event_in act.Marker xs = Logical false
@@ -29,11 +27,10 @@ event_in act.StreamStop xs = StreamStop
 event_in (act.StreamCommit x) xs = StreamCommit x
 event_in (act.StreamAbort x sub) xs = StreamAbort x sub
 
--- the answer that a rule's number stands for: 0 where nothing is refused
-abbrev pub answered : ℕ → Answer
-answered n = cond (eqb n 0) answer.Accepted (refuse n)
+abbrev pub event_looked : Looked → List ℕ → Event
+event_looked (looked.Change o x ts) xs = Change x o (tuples_of ts)
+event_looked (looked.Other a) xs = event_in a xs
 
-abbrev pub heard_in : Looked → List ℕ → Heard
-heard_in (looked.Unread n o) xs = unread (n % 256) o
-heard_in (looked.Change o x ts) xs = heard (Change x o (tuples_of ts))
-heard_in (looked.Other a) xs = heard (event_in a xs)
+abbrev pub heard_in : Result Looked Refusal → List ℕ → Heard
+heard_in (Err r) xs = unread r.number r.offset
+heard_in (Ok l) xs = heard (event_looked l xs)

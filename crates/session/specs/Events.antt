@@ -1,7 +1,6 @@
 -- To be believed (demand 3). What the session's rules look at in a message: an event.
-use Rattle.std.specs.Prelude.{ℕ, zero, suc, List, [], ◌∷◌, Bool, eqb}
-use Rattle.wire.specs.declared.Cursor.{Cursor}
-use Rattle.wire.specs.declared.Cursor.TheVariants.{At}
+use Rattle.std.specs.Prelude.{ℕ, zero, suc, List, [], ◌∷◌, Bool, eqb, Ok}
+use Rattle.wire.specs.Cursors.{Cursor}
 use Rattle.message.specs.declared.OldTuple.{OldTuple}
 use Rattle.message.specs.declared.OldTuple.TheVariants as old
 use Rattle.message.specs.declared.Message.{Message}
@@ -42,7 +41,7 @@ pub data Event : Type 0 where
 
 -- a tuple starts with its column count
 abbrev pub tuple_at : ℕ → List ℕ → ℕ → Tuple
-tuple_at letter xs start = tuple letter (column_count xs (At start)).value
+tuple_at letter xs start = tuple letter (column_count xs (Ok start)).value
 
 -- an Update's old tuple, where it has one, before its other tuples
 abbrev pub old_before : OldTuple → List ℕ → List Tuple → List Tuple
@@ -64,7 +63,7 @@ event_of (m.«Type» r) xs = Neutral
 event_of (m.Insert r) xs = Change r.xid r.relation (tuple_at 0x4E xs r.tuple ∷ [])
 event_of (m.Update r) xs = Change r.xid r.relation (old_before r.old xs (tuple_at 0x4E xs r.tuple ∷ []))
 event_of (m.Delete r) xs = Change r.xid r.relation (tuple_at r.image xs r.tuple ∷ [])
-event_of (m.Truncate r) xs = Truncate r.xid (oids_at r.count xs (At r.relations))
+event_of (m.Truncate r) xs = Truncate r.xid (oids_at r.count xs (Ok r.relations))
 event_of (m.Message r) xs = Logical (eqb r.flags 1)
 event_of (m.StreamStart xid first) xs = StreamStart xid (eqb first 1)
 event_of m.StreamStop xs = StreamStop

@@ -2,8 +2,8 @@
 -- The list theorem does not need this file; that two layouts answer alike does.
 use Rattle.std.specs.Prelude.{ℕ, List, [], ◌∷◌, cond}
 use Rattle.message.specs.declared.Version.{Version}
-use Rattle.session.specs.declared.Answer.{Answer}
-use Rattle.session.specs.declared.Answer.TheVariants as answer
+use Rattle.session.specs.Answers.{Answer}
+use Rattle.session.specs.Answers as answer
 use Rattle.session.specs.History.{Given, given}
 use Rattle.session.specs.Rules.{accepts, Heard, unread, heard, hears}
 use Rattle.session.specs.State.{Layout, StateOf, answer_by, state_by}

@@ -1,7 +1,7 @@
 -- To be believed (`last_answer` alone). A list of messages in one slice of bytes: each ends where `ends` says and starts where the one before ended.
 use Rattle.std.specs.Prelude.{ℕ, ◌-◌, List, [], ◌∷◌, cond, ◌&&◌, leb, length, take, drop}
 use Rattle.wire.specs.Lists.{first, rest}
-use Rattle.session.specs.declared.Answer.{Answer}
+use Rattle.session.specs.Answers.{Answer}
 use Rattle.session.specs.History.{Given, given}
 
 -- the bytes from `start` to `end`, and none where these are no part of the slice

@@ -2,12 +2,14 @@
 -- Nobody has to believe this file: a step of the code equals `step_of`, its start `start_of`, and the list theorem shows what they answer.
 use Rattle.std.specs.Prelude.{ℕ, ◌%◌, List, [], ◌∷◌, Bool, cond, not, eqb, leb, replicate, get_or}
 use Rattle.message.specs.declared.Version.{Version}
-use Rattle.catalog.specs.Opens.{Streams, streams}
-use Rattle.catalog.specs.Tables.{Table, table}
+use Rattle.catalog.specs.declared.announcements.Announcements.{Announcements}
+use Rattle.catalog.specs.declared.streams.Streams.{Streams}
+use Rattle.catalog.specs.Opens.{streams}
+use Rattle.catalog.specs.Tables.{Table, table, fresh_arrays}
 use Rattle.session.specs.declared.Place.{Place}
 use Rattle.session.specs.declared.Place.TheVariants.{Idle, Transaction, Block}
-use Rattle.session.specs.declared.Answer.{Answer}
-use Rattle.session.specs.declared.Answer.TheVariants as answer
+use Rattle.session.specs.Answers.{Answer}
+use Rattle.session.specs.Answers as answer
 use Rattle.session.specs.declared.Head.{Head}
 use Rattle.session.specs.declared.Session.{Session}
 use Rattle.session.specs.declared.Stepped.{Stepped}
@@ -59,49 +61,26 @@ head_at h p b n = record {
 -- THE PARTS of a record: a head, and the arrays of the tables
 pub record Parts : Type 0 where
   pub head : Head
-  pub xids : List ℕ
-  pub marks : List ℕ
-  pub keys : List ℕ
-  pub tags : List ℕ
-  pub identities : List ℕ
-  pub columns : List ℕ
+  pub streams : Streams
+  pub announcements : Announcements
 
-abbrev pub parts : Head → List ℕ → List ℕ → List ℕ → List ℕ → List ℕ → List ℕ → Parts
-parts h x m k g i c = record { head = h; xids = x; marks = m; keys = k; tags = g; identities = i; columns = c }
-
-abbrev pub streams_of : Parts → Streams
-streams_of p = streams p.xids p.marks
+abbrev pub parts : Head → Streams → Announcements → Parts
+parts h s a = record { head = h; streams = s; announcements = a }
 
 abbrev pub table_of : Parts → Table
-table_of p = table p.head.rows p.keys p.tags p.identities p.columns
+table_of p = table p.head.rows p.announcements
 
 -- what they say
 abbrev pub view : Parts → State
-view p = state (place_in p.head) (flag_in p.head) (streams_of p) (table_of p)
+view p = state (place_in p.head) (flag_in p.head) p.streams (table_of p)
 
 -- the parts that say something new
 abbrev pub written : Parts → State → Parts
-written p n =
-    parts
-    (head_at p.head n.place n.changed n.table.count)
-    n.streams.xids
-    n.streams.marks
-    n.table.keys
-    n.table.tags
-    n.table.identities
-    n.table.columns
+written p n = parts (head_at p.head n.place n.changed n.table.count) n.streams n.table.arrays
 
 -- THE RECORD: the head's numbers, in words, and the arrays
-abbrev pub session_of : List ℕ → List ℕ → List ℕ → List ℕ → List ℕ → List ℕ → List ℕ → Session
-session_of head xids marks keys tags identities columns = record {
-  head = head;
-  stream_xids = xids;
-  stream_changed = marks;
-  keys = keys;
-  tags = tags;
-  identities = identities;
-  columns = columns;
-}
+abbrev pub session_of : List ℕ → Streams → Announcements → Session
+session_of head streams announcements = record { head = head; streams = streams; announcements = announcements }
 
 -- a version that does not fit its number is 0, which is none; of the other words the low bits count
 abbrev pub head_in : List ℕ → Head
@@ -119,10 +98,10 @@ abbrev pub words_of : ℕ → Head → List ℕ
 words_of version h = h.final_lsn ∷ version ∷ h.current_xid ∷ h.phase ∷ h.changed ∷ h.rows ∷ []
 
 abbrev pub parts_of : Session → Parts
-parts_of s = parts (head_in s.head) s.stream_xids s.stream_changed s.keys s.tags s.identities s.columns
+parts_of s = parts (head_in s.head) s.streams s.announcements
 
 abbrev pub made : ℕ → Parts → Session
-made version p = session_of (words_of version p.head) p.xids p.marks p.keys p.tags p.identities p.columns
+made version p = session_of (words_of version p.head) p.streams p.announcements
 
 -- what it shows a rule
 abbrev pub shows : Session → Sight
@@ -160,9 +139,5 @@ start_of s =
     (version_of s).number
     (parts
     (record { version = (version_of s).number; phase = 0; current_xid = 0; final_lsn = 0; changed = 0; rows = 0 })
-    (replicate 16 0)
-    (replicate 16 0)
-    (replicate 256 0)
-    (replicate 256 0)
-    (replicate 256 0)
-    (replicate 256 0))
+    (streams (replicate 16 0) (replicate 16 0))
+    fresh_arrays)

@@ -1,13 +1,13 @@
 -- To be believed (demand 3). THE SESSION'S RULES (document 01): the only choice of rule, over what a rule may look at; and the answers to a list of messages, over history.
-use Rattle.std.specs.Prelude.{ℕ, List, [], ◌∷◌, Bool, true, false, cond, not, ◌||◌, ◌&&◌, eqb, leb}
+use Rattle.std.specs.Prelude.{ℕ, List, [], ◌∷◌, Bool, true, cond, not, ◌||◌, ◌&&◌, eqb, leb, is_ok}
 use Rattle.message.specs.declared.Version.{Version}
-use Rattle.message.specs.declared.Read.{Read}
-use Rattle.message.specs.declared.Read.TheVariants as read
+use Rattle.message.specs.Messages.{Read}
+use Rattle.std.specs.Prelude.{Ok, Err}
 use Rattle.message.specs.Messages.{read_message}
 use Rattle.session.specs.declared.Place.{Place}
 use Rattle.session.specs.declared.Place.TheVariants.{Idle, Transaction, Block}
-use Rattle.session.specs.declared.Answer.{Answer}
-use Rattle.session.specs.declared.Answer.TheVariants as answer
+use Rattle.session.specs.Answers.{Answer}
+use Rattle.session.specs.Answers as answer
 use Rattle.session.specs.Events.{Event, Begin, Commit, Origin, Relation, Change, Truncate, Neutral, Logical, StreamStart, StreamStop, StreamCommit, StreamAbort, Tuple, tuple, event_of}
 use Rattle.session.specs.History.{Given, given, entry, Announced, unannounced, announced, is_announced, or_else, History, place, is_idle, in_transaction, in_block, final_lsn, holder_at, is_open, open_count, is_changed, latest, live_count}
 
@@ -142,9 +142,7 @@ abbrev pub judge : Rooms → History → Event → Answer
 judge r h e = judge_by r (sight_of h) e
 
 abbrev pub accepts : Answer → Bool
-accepts answer.Accepted = true
-accepts (answer.Change g i c) = true
-accepts (answer.Refused n o) = false
+accepts a = is_ok a
 
 -- WHAT IS HEARD of bytes that are read: reading's refusal, with its offset, or the event of a message
 pub data Heard : Type 0 where
@@ -152,8 +150,8 @@ pub data Heard : Type 0 where
   heard : (event : Event) → Heard
 
 abbrev pub heard_of : Read → List ℕ → Heard
-heard_of (read.Refused r) xs = unread r.number r.offset
-heard_of (read.Message m) xs = heard (event_of m xs)
+heard_of (Err r) xs = unread r.number r.offset
+heard_of (Ok m) xs = heard (event_of m xs)
 
 -- a message is read inside a block exactly when the session stands in one
 abbrev pub hears : Version → Place → List ℕ → Heard

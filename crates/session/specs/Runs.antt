@@ -1,6 +1,6 @@
 -- To be believed (demand 3). What a session answers to a list of messages, and the record that they leave: each goes to the record as the last one left it.
 use Rattle.std.specs.Prelude.{List, [], ◌∷◌}
-use Rattle.session.specs.declared.Answer.{Answer}
+use Rattle.session.specs.Answers.{Answer}
 use Rattle.session.specs.declared.Session.{Session}
 use Rattle.session.specs.History.{Given, given}
 use Rattle.session.specs.Machine.{step_of}

@@ -1,21 +1,21 @@
 -- For contracts only. What a session keeps, in whatever way it lies in its record, and what a message makes of it.
 -- Nobody has to believe this file: the list theorem shows that it answers as the rules over history do.
-use Rattle.std.specs.Prelude.{ℕ, Bool, true, false, cond, eqb}
-use Rattle.catalog.specs.declared.Lookup.{Lookup}
-use Rattle.catalog.specs.declared.Lookup.TheVariants.{Missing, Found}
-use Rattle.catalog.specs.Opens.{Streams, fresh_streams, is_open_in, open_count_in, changed_in, open_in, close_in, mark_in}
+use Rattle.std.specs.Prelude.{ℕ, Bool, true, false, cond, eqb, Option, Some, None}
+use Rattle.catalog.specs.declared.announcements.Announcement.{Announcement}
+use Rattle.catalog.specs.declared.streams.Streams.{Streams}
+use Rattle.catalog.specs.Opens.{fresh_streams, is_open_in, open_count_in, changed_in, open_in, close_in, mark_in}
 use Rattle.catalog.specs.Tables.{Table, fresh_table, lookup, used_in, put_in, drop_in, release_in}
 use Rattle.session.specs.declared.Place.{Place}
 use Rattle.session.specs.declared.Place.TheVariants.{Idle, Transaction, Block}
-use Rattle.session.specs.declared.Answer.{Answer}
+use Rattle.session.specs.Answers.{Answer}
 use Rattle.session.specs.Events.{Event, Begin, Commit, Origin, Relation, Change, Truncate, Neutral, Logical, StreamStart, StreamStop, StreamCommit, StreamAbort}
 use Rattle.session.specs.History.{Announced, unannounced, announced, place_after, holder_at}
 use Rattle.session.specs.Rules.{Sight, rooms, visible_at, judge_by}
 
 -- what is seen of an announcement that the table finds
-abbrev pub announced_by : Lookup → Announced
-announced_by Missing = unannounced
-announced_by (Found g i c) = announced g i c
+abbrev pub announced_by : Option Announcement → Announced
+announced_by None = unannounced
+announced_by (Some a) = announced a.tag a.identity a.columns
 
 -- a holder's announcement of an OID
 abbrev pub held_in : Table → ℕ → ℕ → Announced

@@ -2,10 +2,10 @@
 use Rattle.std.specs.Prelude.{ℕ, ◌≡◌, List, [], ◌∷◌, ◌++◌, Bool, true, false, ◌&&◌, length, drop}
 use Rattle.message.specs.declared.Version.{Version}
 use Rattle.message.specs.declared.Message.TheVariants as m
-use Rattle.message.specs.declared.Read.TheVariants as read
+use Rattle.std.specs.Prelude.{Ok}
 use Rattle.message.specs.Messages.{read_message}
 use Rattle.session.specs.declared.Place.TheVariants.{Block}
-use Rattle.session.specs.declared.Answer.{Answer}
+use Rattle.session.specs.Answers.{Answer}
 use Rattle.session.specs.Events.{StreamStop}
 use Rattle.session.specs.History.{Given, bytes_of}
 use Rattle.session.specs.Rules.{accepts, heard, hears, Start, version_of}
@@ -18,7 +18,7 @@ pub data ToStop (v : Version) (x : ℕ) : List Given → Type 0 where
   goes : {g : Given} {l : List Given} → (hears v (Block x) (bytes_of g) ≡ heard StreamStop → ⊥) → ToStop v x l → ToStop v x (g ∷ l)
 
 pub data BlockOf (v : Version) (x : ℕ) : List Given → Type 0 where
-  starts : {g : Given} {first : ℕ} {l : List Given} → read_message v false (bytes_of g) ≡ read.Message (m.StreamStart x first) → ToStop v x l → BlockOf v x (g ∷ l)
+  starts : {g : Given} {first : ℕ} {l : List Given} → read_message v false (bytes_of g) ≡ Ok (m.StreamStart x first) → ToStop v x l → BlockOf v x (g ∷ l)
 
 -- WHAT MESSAGES GET where others were given before them, by what the messages of a whole list get
 abbrev pub gets_after : {A G : Type 0} → (List A → List G) → List A → List A → List G

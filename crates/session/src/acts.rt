@@ -1,58 +1,28 @@
 // From a message that was read to what the session looks at in it.
-ghost use Rattle.std.specs.Prelude.{◌≡◌, List, [], ◌∷◌, ℕ, ◌<◌, ◌%◌};
-ghost use Rattle.wire.specs.declared.Cursor.TheVariants.{At};
+ghost use Rattle.std.specs.Prelude.{◌≡◌, List, [], ◌∷◌, ℕ, Ok};
 ghost use Rattle.message.specs.Layout.{column_count};
 ghost use Rattle.session.specs.Events.{Change, tuple, old_before, event_of};
-ghost use Rattle.session.specs.Rules.{heard};
-ghost use Rattle.session.specs.Acts.{tuples_of, event_in, heard_in};
+ghost use Rattle.session.specs.Acts.{tuples_of, event_in, event_looked};
 
 use crate::{Act, Looked, Shape, Tuples};
 use message::{LogicalMessage, Message, OldTuple, Relation, Truncate, Update, fields};
-use wire::{Cursor, Field16};
-
-// Smaller numbers as words.
-pub fn wide8(x: u8) -> u64
-    ensures { (result ≡ x) × (result < 256) }
-{
-    x as u64
-}
-
-pub fn wide32(x: u32) -> u64
-    ensures { result ≡ x }
-{
-    x as u64
-}
-
-pub fn wide16(x: u16) -> u64
-    ensures { (result ≡ x) × (result < 65536) }
-{
-    x as u64
-}
-
-// And back: what does not fit is cut off.
-pub fn narrow8(x: u64) -> u8
-    ensures { result ≡ x % 256 }
-{
-    (x % 256) as u8
-}
-
-pub fn narrow16(x: u64) -> u16
-    ensures { result ≡ x % 65536 }
-{
-    (x % 65536) as u16
-}
+use wire::Reader;
 
 // How many columns the tuple at `start` counts.
+#[tactic(auto, using(wire::proofs::Given::number_or))]
 pub fn count_at(bytes: &[u8], start: usize) -> u64
-    ensures { result ≡ (column_count bytes.now (At start)).value }
+    ensures { result ≡ (column_count bytes.now (Ok start)).value }
 {
-    let Field16 { value, .. } = fields::column_count(bytes, Cursor::At(start));
-    wide16(value)
+    let mut r = Reader {
+        bytes,
+        next: Ok(start),
+    };
+    u64::from(fields::column_count(&mut r).unwrap_or(0))
 }
 
 // A change that has one tuple.
 pub fn change(xid: u32, oid: u32, letter: u64, count: u64) -> Looked
-    ensures { (xs : List ℕ) → heard_in result xs ≡ heard (Change xid oid (tuple letter count ∷ [])) }
+    ensures { (xs : List ℕ) → event_looked result xs ≡ Change xid oid (tuple letter count ∷ []) }
 {
     let tuples = Tuples {
         old: 0,
@@ -62,7 +32,7 @@ pub fn change(xid: u32, oid: u32, letter: u64, count: u64) -> Looked
     };
     Looked::Change {
         oid,
-        xid: wide32(xid),
+        xid: u64::from(xid),
         tuples,
     }
 }
@@ -95,7 +65,7 @@ pub fn updated(old: OldTuple, count: u64, bytes: &[u8]) -> Tuples
 }
 
 pub fn update(x: Update, bytes: &[u8]) -> Looked
-    ensures { heard_in result bytes.now ≡ heard (event_of (Message.Update x) bytes.now) }
+    ensures { event_looked result bytes.now ≡ event_of (Message.Update x) bytes.now }
 {
     let Update {
         xid,
@@ -107,7 +77,7 @@ pub fn update(x: Update, bytes: &[u8]) -> Looked
     let count = count_at(bytes, tuple);
     Looked::Change {
         oid: relation,
-        xid: wide32(xid),
+        xid: u64::from(xid),
         tuples: updated(old, count, bytes),
     }
 }
@@ -118,8 +88,8 @@ pub fn relation(x: Relation) -> Act
     Act::Relation {
         oid: x.relation,
         shape: Shape {
-            identity: wide8(x.identity),
-            columns: wide16(x.count),
+            identity: u64::from(x.identity),
+            columns: u64::from(x.count),
         },
     }
 }
@@ -130,7 +100,7 @@ pub fn truncate(x: Truncate) -> Act
     Act::Truncate {
         count: x.count,
         start: x.relations,
-        xid: wide32(x.xid),
+        xid: u64::from(x.xid),
     }
 }
 
@@ -146,7 +116,7 @@ pub fn logical(x: LogicalMessage) -> Act
 
 // What the session looks at in a message that was read, whose bytes are lent.
 pub fn looked_at(m: Message, bytes: &[u8]) -> Looked
-    ensures { heard_in result bytes.now ≡ heard (event_of m bytes.now) }
+    ensures { event_looked result bytes.now ≡ event_of m bytes.now }
 {
     match m {
         Message::Begin(x) => Looked::Other(Act::Begin {
@@ -159,12 +129,17 @@ pub fn looked_at(m: Message, bytes: &[u8]) -> Looked
         Message::Type(_) => Looked::Other(Act::Neutral),
         Message::Insert(x) => change(x.xid, x.relation, Tuples::NEW, count_at(bytes, x.tuple)),
         Message::Update(x) => update(x, bytes),
-        Message::Delete(x) => change(x.xid, x.relation, wide8(x.image), count_at(bytes, x.tuple)),
+        Message::Delete(x) => change(
+            x.xid,
+            x.relation,
+            u64::from(x.image),
+            count_at(bytes, x.tuple),
+        ),
         Message::Truncate(x) => Looked::Other(truncate(x)),
         Message::Message(x) => Looked::Other(logical(x)),
         Message::StreamStart { xid, first } => Looked::Other(Act::StreamStart {
             xid,
-            first: wide8(first),
+            first: u64::from(first),
         }),
         Message::StreamStop => Looked::Other(Act::StreamStop),
         Message::StreamCommit(x) => Looked::Other(Act::StreamCommit { xid: x.xid }),

@@ -7,8 +7,9 @@ ghost use Rattle.session.specs.State.{announced_by};
 ghost use Rattle.session.specs.Machine.{version_in, parts_of, shows};
 
 use crate::{Place, Session, heads, judging, rules};
-use catalog::Lookup;
-use message::{Read, Version};
+use catalog::announcements::Announcement;
+use message::{Message, Version};
+use wire::Refusal;
 
 pub fn version_of(session: Session) -> Version
     ensures { result ≡ version_in (parts_of session).head }
@@ -29,7 +30,7 @@ pub fn place_of(session: Session) -> Place
 }
 
 // A message as it reads it.
-pub fn read_in(session: Session, bytes: &[u8]) -> Read
+pub fn read_in(session: Session, bytes: &[u8]) -> Result<Message, Refusal>
     ensures { result ≡ read_message (version_in (parts_of session).head) (in_block (shows session).place) bytes.now }
 {
     let version = version_of(session);
@@ -38,16 +39,12 @@ pub fn read_in(session: Session, bytes: &[u8]) -> Read
 }
 
 // The announcement of an OID that a change would see now.
-pub fn visible_in(session: Session, oid: u32) -> Lookup
+pub fn visible_in(session: Session, oid: u32) -> Option<Announcement>
     ensures { announced_by result ≡ visible (shows session) oid }
 {
     let words = session.head;
     let head = heads::head_in(&words);
-    let keys = session.keys;
-    let tags = session.tags;
-    let identities = session.identities;
-    let columns = session.columns;
     let n = head.rows;
     let place = rules::place_of(head);
-    judging::visible(place, n, &keys, &tags, &identities, &columns, oid)
+    judging::visible(place, n, &session.announcements, oid)
 }

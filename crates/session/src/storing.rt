@@ -1,6 +1,6 @@
 // APPLY: what an accepted message makes of the head and the tables (`apply_change`, `apply`). Nothing is judged.
 ghost use Rattle.std.specs.Prelude.{◌≡◌, cond, List, ℕ, ◌%◌, eqb};
-ghost use Rattle.catalog.specs.Opens.{streams, open_in, close_in};
+ghost use Rattle.catalog.specs.Opens.{open_in, close_in};
 ghost use Rattle.catalog.specs.Tables.{table, put_in, drop_in, release_in};
 ghost use Rattle.session.specs.declared.Place.TheVariants.{Block};
 ghost use Rattle.session.specs.History.{holder_at};
@@ -8,15 +8,16 @@ ghost use Rattle.session.specs.State.{flagged_at, marked_at, state_after};
 ghost use Rattle.session.specs.Machine.{place_in, flag_in, head_at, parts, view, written};
 ghost use Rattle.session.specs.Acts.{event_in};
 
-use crate::{Act, Head, Place, Shape, acts, rules};
-use catalog::announcements;
+use crate::{Act, Head, Place, Shape, rules};
+use catalog::announcements::{Announcement, Announcements};
+use catalog::streams::Streams;
 
 // The head that stands at a place, with a change or none, and has so many rows in use.
 pub fn head_at(head: Head, place: Place, changed: bool, rows: u16) -> Head
     ensures { result ≡ head_at head place changed rows }
 {
     let mut next = head;
-    next.changed = rules::bit(changed);
+    next.changed = u16::from(changed);
     next.rows = rows;
     match place {
         Place::Idle => {
@@ -35,8 +36,9 @@ pub fn head_at(head: Head, place: Place, changed: bool, rows: u16) -> Head
 }
 
 // A change, or a Truncate: the transaction has a change.
-pub fn apply_change<'a>(head: Head, xids: &'a [u32; 16], marks: &'a mut [u8; 16]) -> Head
-    ensures { (result ≡ head_at head (place_in head) (flagged_at (place_in head) (flag_in head)) head.rows) × (streams xids.now marks.new ≡ marked_at (place_in head) (streams xids.now marks.old)) }
+pub fn apply_change(head: Head, streams: &mut Streams) -> Head
+    ensures head { result ≡ head_at head (place_in head) (flagged_at (place_in head) (flag_in head)) head.rows }
+    ensures streams { streams.new ≡ marked_at (place_in head) streams.old }
 {
     let place = rules::place_of(head);
     let flagged = rules::flag_of(head);
@@ -44,7 +46,7 @@ pub fn apply_change<'a>(head: Head, xids: &'a [u32; 16], marks: &'a mut [u8; 16]
         Place::Idle => head_at(head, place, flagged, head.rows),
         Place::Transaction(_) => head_at(head, place, true, head.rows),
         Place::Block(xid) => {
-            catalog::streams::mark(xids, marks, xid);
+            streams.mark(xid);
             head_at(head, place, flagged, head.rows)
         }
     }
@@ -60,122 +62,111 @@ fn flagged_at(place: Place, b: bool) -> bool
     }
 }
 
-fn mark_at<'a>(place: Place, xids: &'a [u32; 16], marks: &'a mut [u8; 16])
-    ensures { streams xids.now marks.new ≡ marked_at place (streams xids.now marks.old) }
+fn mark_at(place: Place, streams: &mut Streams)
+    ensures { streams.new ≡ marked_at place streams.old }
 {
     match place {
         Place::Idle => {}
         Place::Transaction(_) => {}
-        Place::Block(xid) => catalog::streams::mark(xids, marks, xid),
+        Place::Block(xid) => streams.mark(xid),
     }
 }
 
-fn apply_relation<'a>(
+fn apply_relation(
     head: Head,
-    keys: &'a mut [u64; 256],
-    tags: &'a mut [u64; 256],
-    identities: &'a mut [u8; 256],
-    columns: &'a mut [u16; 256],
+    announcements: &mut Announcements,
     oid: u32,
     shape: Shape,
     tag: u64,
 ) -> Head
-    ensures { (result ≡ head_at head (place_in head) (flag_in head) result.rows) × (table result.rows keys.new tags.new identities.new columns.new ≡ put_in (table head.rows keys.old tags.old identities.old columns.old) (holder_at (place_in head)) oid tag (shape.identity % 256) (shape.columns % 65536)) }
+    ensures head { result ≡ head_at head (place_in head) (flag_in head) result.rows }
+    ensures table { table result.rows announcements.new ≡ put_in (table head.rows announcements.old) (holder_at (place_in head)) oid tag (shape.identity % 256) (shape.columns % 65536) }
 {
     let place = rules::place_of(head);
     let n = head.rows;
     let t = rules::holder_at(place);
-    let i = acts::narrow8(shape.identity);
-    let c = acts::narrow16(shape.columns);
-    let rows = announcements::put(keys, tags, identities, columns, n, t, oid, tag, i, c);
+    let said = Announcement {
+        tag,
+        identity: (shape.identity % 256) as u8,
+        columns: (shape.columns % 65536) as u16,
+    };
+    let rows = announcements.put(n, t, oid, said);
     head_at(head, place, rules::flag_of(head), rows)
 }
 
-fn apply_truncate<'a>(head: Head, xids: &'a [u32; 16], marks: &'a mut [u8; 16]) -> Head
-    ensures { (result ≡ head_at head (place_in head) (flagged_at (place_in head) (flag_in head)) head.rows) × (streams xids.now marks.new ≡ marked_at (place_in head) (streams xids.now marks.old)) }
+fn apply_truncate(head: Head, streams: &mut Streams) -> Head
+    ensures head { result ≡ head_at head (place_in head) (flagged_at (place_in head) (flag_in head)) head.rows }
+    ensures streams { streams.new ≡ marked_at (place_in head) streams.old }
 {
     let place = rules::place_of(head);
-    mark_at(place, xids, marks);
+    mark_at(place, streams);
     let flagged = flagged_at(place, rules::flag_of(head));
     head_at(head, place, flagged, head.rows)
 }
 
-fn open_first<'a>(xids: &'a mut [u32; 16], marks: &'a mut [u8; 16], xid: u32, first: u64)
-    ensures { streams xids.new marks.new ≡ cond (eqb first 1) (open_in (streams xids.old marks.old) xid) (streams xids.old marks.old) }
+fn open_first(streams: &mut Streams, xid: u32, first: u64)
+    ensures { streams.new ≡ cond (eqb first 1) (open_in streams.old xid) streams.old }
 {
     if first == 1 {
-        catalog::streams::open(xids, marks, xid);
+        streams.open(xid);
     }
 }
 
-fn apply_stream_start<'a>(
-    head: Head,
-    xids: &'a mut [u32; 16],
-    marks: &'a mut [u8; 16],
-    xid: u32,
-    first: u64,
-) -> Head
-    ensures { (result ≡ head_at head (Block xid) (flag_in head) head.rows) × (streams xids.new marks.new ≡ cond (eqb first 1) (open_in (streams xids.old marks.old) xid) (streams xids.old marks.old)) }
+fn apply_stream_start(head: Head, streams: &mut Streams, xid: u32, first: u64) -> Head
+    ensures head { result ≡ head_at head (Block xid) (flag_in head) head.rows }
+    ensures streams { streams.new ≡ cond (eqb first 1) (open_in streams.old xid) streams.old }
 {
-    open_first(xids, marks, xid, first);
+    open_first(streams, xid, first);
     head_at(head, Place::Block(xid), rules::flag_of(head), head.rows)
 }
 
-fn apply_stream_commit<'a>(
+fn apply_stream_commit(
     head: Head,
-    xids: &'a mut [u32; 16],
-    marks: &'a mut [u8; 16],
-    keys: &'a mut [u64; 256],
-    tags: &'a mut [u64; 256],
-    identities: &'a mut [u8; 256],
-    columns: &'a mut [u16; 256],
+    streams: &mut Streams,
+    announcements: &mut Announcements,
     xid: u32,
 ) -> Head
-    ensures { (result ≡ head_at head (place_in head) (flag_in head) result.rows) × (streams xids.new marks.new ≡ close_in (streams xids.old marks.old) xid) × (table result.rows keys.new tags.new identities.new columns.new ≡ release_in (table head.rows keys.old tags.old identities.old columns.old) xid) }
+    ensures head { result ≡ head_at head (place_in head) (flag_in head) result.rows }
+    ensures streams { streams.new ≡ close_in streams.old xid }
+    ensures table { table result.rows announcements.new ≡ release_in (table head.rows announcements.old) xid }
 {
     let n = head.rows;
-    catalog::streams::close(xids, marks, xid);
-    let rows = announcements::release(keys, tags, identities, columns, n, xid);
+    streams.close(xid);
+    let rows = announcements.release(n, xid);
     head_at(head, rules::place_of(head), rules::flag_of(head), rows)
 }
 
-fn apply_stream_abort<'a>(
+fn apply_stream_abort(
     head: Head,
-    xids: &'a mut [u32; 16],
-    marks: &'a mut [u8; 16],
-    keys: &'a mut [u64; 256],
-    tags: &'a mut [u64; 256],
-    identities: &'a mut [u8; 256],
-    columns: &'a mut [u16; 256],
+    streams: &mut Streams,
+    announcements: &mut Announcements,
     xid: u32,
     sub: u32,
 ) -> Head
-    ensures { (result ≡ head_at head (place_in head) (flag_in head) result.rows) × (streams xids.new marks.new ≡ cond (eqb xid sub) (close_in (streams xids.old marks.old) xid) (streams xids.old marks.old)) × (table result.rows keys.new tags.new identities.new columns.new ≡ cond (eqb xid sub) (drop_in (table head.rows keys.old tags.old identities.old columns.old) xid) (table head.rows keys.old tags.old identities.old columns.old)) }
+    ensures head { result ≡ head_at head (place_in head) (flag_in head) result.rows }
+    ensures streams { streams.new ≡ cond (eqb xid sub) (close_in streams.old xid) streams.old }
+    ensures table { table result.rows announcements.new ≡ cond (eqb xid sub) (drop_in (table head.rows announcements.old) xid) (table head.rows announcements.old) }
 {
     let place = rules::place_of(head);
     let flagged = rules::flag_of(head);
     let n = head.rows;
     if xid == sub {
-        catalog::streams::close(xids, marks, xid);
-        let rows = announcements::drop_holder(keys, tags, identities, columns, n, xid);
+        streams.close(xid);
+        let rows = announcements.drop_holder(n, xid);
         return head_at(head, place, flagged, rows);
     }
     head_at(head, place, flagged, n)
 }
 
 // What an accepted message of another kind makes of them.
-pub fn apply<'a>(
+pub fn apply(
     head: Head,
-    xids: &'a mut [u32; 16],
-    marks: &'a mut [u8; 16],
-    keys: &'a mut [u64; 256],
-    tags: &'a mut [u64; 256],
-    identities: &'a mut [u8; 256],
-    columns: &'a mut [u16; 256],
+    streams: &mut Streams,
+    announcements: &mut Announcements,
     a: Act,
     tag: u64,
 ) -> Head
-    ensures { (xs : List ℕ) → parts result xids.new marks.new keys.new tags.new identities.new columns.new ≡ written (parts head xids.old marks.old keys.old tags.old identities.old columns.old) (state_after (view (parts head xids.old marks.old keys.old tags.old identities.old columns.old)) (event_in a xs) tag) }
+    ensures { (xs : List ℕ) → parts result streams.new announcements.new ≡ written (parts head streams.old announcements.old) (state_after (view (parts head streams.old announcements.old)) (event_in a xs) tag) }
 {
     let place = rules::place_of(head);
     let flagged = rules::flag_of(head);
@@ -184,20 +175,16 @@ pub fn apply<'a>(
         Act::Begin { lsn, .. } => head_at(head, Place::Transaction(lsn), false, n),
         Act::Commit { .. } => head_at(head, Place::Idle, flagged, n),
         Act::Origin => head_at(head, place, flagged, n),
-        Act::Relation { oid, shape } => {
-            apply_relation(head, keys, tags, identities, columns, oid, shape, tag)
-        }
-        Act::Truncate { .. } => apply_truncate(head, xids, marks),
+        Act::Relation { oid, shape } => apply_relation(head, announcements, oid, shape, tag),
+        Act::Truncate { .. } => apply_truncate(head, streams),
         Act::Neutral => head_at(head, place, flagged, n),
         Act::Transactional => head_at(head, place, flagged, n),
         Act::Marker => head_at(head, place, flagged, n),
-        Act::StreamStart { xid, first } => apply_stream_start(head, xids, marks, xid, first),
+        Act::StreamStart { xid, first } => apply_stream_start(head, streams, xid, first),
         Act::StreamStop => head_at(head, Place::Idle, flagged, n),
-        Act::StreamCommit { xid } => {
-            apply_stream_commit(head, xids, marks, keys, tags, identities, columns, xid)
-        }
+        Act::StreamCommit { xid } => apply_stream_commit(head, streams, announcements, xid),
         Act::StreamAbort { xid, sub } => {
-            apply_stream_abort(head, xids, marks, keys, tags, identities, columns, xid, sub)
+            apply_stream_abort(head, streams, announcements, xid, sub)
         }
     }
 }

@@ -7,7 +7,7 @@ use native.Mathlib.Omega.{arith}
 use borrow.Author.Tests.{le-leb, eq-eqb, ne_eqb}
 use lib.ListN.{length, length-append}
 use lib.Seq.{drop-append_seam}
-use Rattle.wire.specs.declared.Cursor.TheVariants.{At}
+use Rattle.std.specs.Prelude.{Ok, Some, None, Err}
 use Rattle.wire.specs.Fields.{value_field, member}
 use Rattle.message.specs.Encode.{digits}
 use Rattle.message.proofs.From.{From, be-from, from_first, from_next, number-from, letter-from, bytes-from}
@@ -15,7 +15,6 @@ use Rattle.message.proofs.Judged.{length_digits}
 use Rattle.columns.specs.Steps.{gives, step_at}
 use Rattle.values.specs.declared.ValueKind.{ValueKind}
 use Rattle.values.specs.declared.ValueKind.TheVariants as k
-use Rattle.values.specs.declared.TypedColumn.TheVariants as c
 use Rattle.values.specs.Types.{row_of, is_raw, value_of, typed_value}
 use Rattle.values.specs.Steps.{binary, typed_step}
 use Rattle.values.proofs.Spelled.{listed_back}
@@ -38,7 +37,7 @@ module _ (before bs behind : List ℕ) (short : length bs ≤ 0x7FFFFFFF) where
   pub content : From xs (value_start before) bs behind
   content = rw (length_digits 4 (length bs)) at (from_next (digits 4 (length bs)) bs behind size)
 
-  value_there : value_field xs (At (length before + 1)) ≡ record { value = record { start = value_start before; length = length bs }; next = At (value_start before + length bs) }
+  value_there : value_field xs (Ok (length before + 1)) ≡ record { value = record { start = value_start before; length = length bs }; next = Ok (value_start before + length bs) }
   unfolding value_field
   value_there =
       let l : length bs < 256 ^ 4 = omega arith in
@@ -66,7 +65,7 @@ width_most k.Raw n i h = let z : ◌≡◌ {A = ℕ} 0 1 = cc in absurd (omega a
 pub number_stands :
     (y : ValueKind) (n : ℕ) → is_raw y ≡ false → n ≤ (row_of y).most → (before behind : List ℕ) (k : ℕ)
     → let bs = digits (row_of y).width n in
-    typed_step (placed before bs behind) (at_column before k) (row_of y).oid ≡ record { column = c.Value (value_of y (value_start before) (length bs) n); next = past_column before bs k }
+    typed_step (placed before bs behind) (at_column before k) (row_of y).oid ≡ record { item = Ok (Some (value_of y (value_start before) (length bs) n)); next = past_column before bs k }
 unfolding typed_step typed_value
 number_stands y n i m before behind k =
     let bs = digits (row_of y).width n in

@@ -22,9 +22,10 @@ use Rattle.values.specs.declared.Value.{Value}
 use Rattle.values.specs.declared.Value.TheVariants as v
 use Rattle.values.specs.declared.Bits.{Bits}
 use Rattle.values.specs.declared.Bits.TheVariants.{Number}
-use Rattle.values.specs.declared.TypedColumn.TheVariants as c
+use Rattle.std.specs.Prelude.{Some, None, Ok, Err}
 use Rattle.values.specs.Types.{row_of, is_raw, kind_of_type, has_width, value_of, kind_of, bits_of, allowed, typed_value}
-use Rattle.values.specs.Steps.{binary, typed_column, typed_step}
+use Rattle.wire.specs.Cursors.{refuse}
+use Rattle.values.specs.Steps.{binary, one, typed_item, typed_step}
 use Rattle.values.specs.Writes.{written, write_value}
 use Rattle.values.specs.Formed.{Formed, placed, at_column, value_start, past_column}
 use Rattle.values.proofs.Spelled.{spelled, number_back, kind_back, formed}
@@ -62,7 +63,7 @@ pub record GivenBy (xs : List ℕ) (p : Position) (oid : ℕ) (x : Value) : Type
   pub well : Formed x
 
 -- a value that a step gives, from any bytes, is written as the very bytes of its column
-pub write_after_read : (xs : List Byte) (p : Position) (oid : ℕ) (x : Value) → (typed_step (numbers xs) p oid).column ≡ c.Value x → GivenBy (numbers xs) p oid x
+pub write_after_read : (xs : List Byte) (p : Position) (oid : ℕ) (x : Value) → (typed_step (numbers xs) p oid).item ≡ Ok (Some x) → GivenBy (numbers xs) p oid x
 unfolding typed_step typed_value
 write_after_read xs p oid x q = go (step_at binary (numbers xs) p) refl q
   where
@@ -71,7 +72,7 @@ write_after_read xs p oid x q = go (step_at binary (numbers xs) p) refl q
 
     is :
         (s n e : ℕ) → step_at binary (numbers xs) p ≡ gives (s ∷ n ∷ []) e → s + n ≤ length (numbers xs) → (b : Bool) → allowed y n (number xs y s) ≡ b
-        → cond b (c.Value (value_of y s n (number xs y s))) (c.Refused 17 s) ≡ c.Value x → GivenBy (numbers xs) p oid x
+        → one (cond b (Ok (value_of y s n (number xs y s))) (refuse 17 s)) ≡ Ok (Some x) → GivenBy (numbers xs) p oid x
     is s n e g l true t q =
         let same : value_of y s n (number xs y s) ≡ x = cc in
         let f = and_parts (has_width y n) (leb (number xs y s) (row_of y).most) t in
@@ -87,7 +88,7 @@ write_after_read xs p oid x q = go (step_at binary (numbers xs) p) refl q
         }
     is s n e g l false t q = let z : ◌≡◌ {A = ℕ} 0 1 = cc in absurd (omega arith)
 
-    go : (z : StepAnswer) → step_at binary (numbers xs) p ≡ z → typed_column (numbers xs) oid z ≡ c.Value x → GivenBy (numbers xs) p oid x
+    go : (z : StepAnswer) → step_at binary (numbers xs) p ≡ z → typed_item (numbers xs) oid z ≡ Ok (Some x) → GivenBy (numbers xs) p oid x
     go over g q = let z : ◌≡◌ {A = ℕ} 0 1 = cc in absurd (omega arith)
     go (refused m o) g q = let z : ◌≡◌ {A = ℕ} 0 1 = cc in absurd (omega arith)
     go (gives vs e) g q =
@@ -98,7 +99,7 @@ write_after_read xs p oid x q = go (step_at binary (numbers xs) p) refl q
 pub every_pattern :
     (y : ValueKind) → is_raw y ≡ false → (n : ℕ) → n ≤ (row_of y).most → (before behind src : List ℕ) (k : ℕ)
     → let bs = digits (row_of y).width n in
-    (x : Value) × (typed_step (placed before bs behind) (at_column before k) (row_of y).oid ≡ record { column = c.Value x; next = past_column before bs k })
+    (x : Value) × (typed_step (placed before bs behind) (at_column before k) (row_of y).oid ≡ record { item = Ok (Some x); next = past_column before bs k })
     × (kind_of x ≡ y) × (bits_of x ≡ Number (row_of y).width n) × (write_value x src ≡ bytes bs)
 every_pattern y i n m before behind src k =
     let bs = digits (row_of y).width n in
@@ -114,7 +115,7 @@ same_bytes e = cc
 -- a value that is written, and whose bytes stand in a `b` column, is read there as the same value
 pub read_after_write :
     (x : Value) → Formed x → is_raw (kind_of x) ≡ false → (src bs before behind : List ℕ) (k : ℕ) → write_value x src ≡ bytes bs
-    → typed_step (placed before bs behind) (at_column before k) (row_of (kind_of x)).oid ≡ record { column = c.Value x; next = past_column before bs k }
+    → typed_step (placed before bs behind) (at_column before k) (row_of (kind_of x)).oid ≡ record { item = Ok (Some x); next = past_column before bs k }
 read_after_write x f i src bs before behind k e =
     let s = spelled x f i in
     let b : digits (row_of (kind_of x)).width s.n ≡ bs = same_bytes (sym (ap (λ (g : Bits). written g src) s.form) ∙ e) in
@@ -125,7 +126,7 @@ read_after_write x f i src bs before behind k e =
 -- and bytes of any other type as their place
 pub raw_after_write :
     (oid : ℕ) → kind_of_type oid ≡ k.Raw → (bs before behind : List ℕ) (k : ℕ) → length bs ≤ 0x7FFFFFFF
-    → (typed_step (placed before bs behind) (at_column before k) oid ≡ record { column = c.Value (v.Raw (value_start before) (length bs)); next = past_column before bs k })
+    → (typed_step (placed before bs behind) (at_column before k) oid ≡ record { item = Ok (Some (v.Raw (value_start before) (length bs))); next = past_column before bs k })
     × (cut (placed before bs behind) (value_start before) (length bs) ≡ bs)
 unfolding typed_step typed_value be
 raw_after_write oid q bs before behind k l =

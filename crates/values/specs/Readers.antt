@@ -1,16 +1,13 @@
 -- To be believed (binary values). A column reader's step past a binary column: a step at its position.
-use Rattle.std.specs.Prelude.{ℕ, List}
+use Rattle.std.specs.Prelude.{ℕ}
 use Rattle.columns.specs.declared.ColumnReader.{ColumnReader}
-use Rattle.values.specs.declared.TypedMoved.{TypedMoved}
+use Rattle.columns.specs.declared.Step.{Step}
+use Rattle.values.specs.declared.Value.{Value}
 use Rattle.values.specs.Steps.{typed_step}
 
-abbrev pub typed_at : List ℕ → (offset left oid : ℕ) → TypedMoved
-typed_at xs offset left oid =
-    let s = typed_step xs (record { offset = offset; left = left }) oid in
-    record { column = s.column; offset = s.next.offset; left = s.next.left }
+abbrev pub reader_typed : ColumnReader → ℕ → Step Value
+reader_typed r oid = typed_step r.message.now r.position oid
 
 -- the reader after a step: the same message, and the position that the step gives
 abbrev pub typed_to : ColumnReader → ℕ → ColumnReader
-typed_to r oid =
-    let m = typed_at r.message.now r.offset r.left oid in
-    record { message = r.message; offset = m.offset; left = m.left }
+typed_to r oid = record { message = r.message; position = (reader_typed r oid).next }

@@ -1,31 +1,51 @@
 -- To be believed (binary values). One step past a binary column, from any position (document 02, #109): over the same fields and steps as `columns`.
-use Rattle.std.specs.Prelude.{ℕ, List, [], ◌∷◌, get_or}
+use Rattle.std.specs.Prelude.{ℕ, List, [], ◌∷◌, get_or, Option, Some, None, Result, Ok, Err}
+use Rattle.wire.specs.declared.Refusal.{Refusal}
+use Rattle.wire.specs.declared.Span.{Span}
+use Rattle.wire.specs.Cursors.{Cursor, Taken, refuse}
+use Rattle.wire.specs.Fields.{letter_field, value_field}
+use Rattle.wire.specs.Readers.{given}
 use Rattle.message.specs.Layout.{Field, constant, value}
 use Rattle.columns.specs.declared.Position.{Position}
+use Rattle.columns.specs.declared.Step.{Step}
 use Rattle.columns.specs.Steps.{StepAnswer, over, gives, refused, step_at, after}
-use Rattle.values.specs.declared.TypedColumn.{TypedColumn}
-use Rattle.values.specs.declared.TypedColumn.TheVariants as c
-use Rattle.values.specs.declared.TypedStep.{TypedStep}
+use Rattle.values.specs.declared.Value.{Value}
 use Rattle.values.specs.Types.{kind_of_type, typed_value}
 
 -- the letter `b`, a length and that many bytes
 abbrev pub binary : List Field
 binary = constant 0x62 ∷ value ∷ []
 
+abbrev pub one : Result Value Refusal → Result (Option Value) Refusal
+one (Ok x) = Ok (Some x)
+one (Err r) = Err r
+
 -- what was stepped past, its value read by a type OID
-abbrev pub typed_column : List ℕ → ℕ → StepAnswer → TypedColumn
-typed_column xs oid over = c.Over
-typed_column xs oid (gives g e) = typed_value xs (kind_of_type oid) (get_or g 0 0) (get_or g 1 0)
-typed_column xs oid (refused n o) = c.Refused n o
+abbrev pub typed_item : List ℕ → ℕ → StepAnswer → Result (Option Value) Refusal
+typed_item xs oid over = Ok None
+typed_item xs oid (gives g e) = one (typed_value xs (kind_of_type oid) (get_or g 0 0) (get_or g 1 0))
+typed_item xs oid (refused n o) = refuse n o
 
 -- past a value; where it was after any other answer
-abbrev pub moved_by : TypedColumn → Position → Position → Position
-moved_by (c.Value x) to from = to
-moved_by c.Over to from = from
-moved_by (c.Refused n o) to from = from
+abbrev pub moved_by : Result (Option Value) Refusal → Position → Position → Position
+moved_by (Ok (Some x)) to from = to
+moved_by (Ok None) to from = from
+moved_by (Err r) to from = from
 
-unfoldable pub typed_step : List ℕ → Position → ℕ → TypedStep
+unfoldable pub typed_step : List ℕ → Position → ℕ → Step Value
 typed_step xs p oid =
     let s = step_at binary xs p in
-    let k = typed_column xs oid s in
-    record { column = k; next = moved_by k (after s p) p }
+    let k = typed_item xs oid s in
+    record { item = k; next = moved_by k (after s p) p }
+
+-- AS IT IS READ (for contracts only): the bytes of a `b` column, and its value by a type OID
+
+abbrev pub binary_field : List ℕ → Cursor → Taken Span
+binary_field xs c = value_field xs (letter_field (0x62 ∷ []) xs c).next
+
+abbrev pub typed_in : List ℕ → ℕ → Result Span Refusal → Result Value Refusal
+typed_in xs oid (Ok s) = typed_value xs (kind_of_type oid) s.start s.length
+typed_in xs oid (Err r) = Err r
+
+abbrev pub typed_of : List ℕ → ℕ → Taken Span → Result Value Refusal
+typed_of xs oid f = typed_in xs oid (given f)

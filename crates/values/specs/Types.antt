@@ -1,9 +1,11 @@
 -- To be believed (binary values). The types whose binary values are numbers (document 02, #109): one table, and what each case of a value is.
-use Rattle.std.specs.Prelude.{ℕ, List, [], ◌∷◌, Bool, true, false, cond, ◌&&◌, ◌||◌, eqb, leb, Float}
+use Rattle.std.specs.Prelude.{ℕ, List, [], ◌∷◌, Bool, true, false, cond, ◌&&◌, ◌||◌, eqb, leb, Float, Result, Ok}
 use Rattle.std.specs.Float.{Format, binary32, binary64}
 use Rattle.std.specs.Float.Ieee.{of_bits, to_bits, nan_bits}
 use Rattle.std.specs.Int.{w16, w32, w64}
 use Rattle.std.proofs.Common.{to_z, of_z}
+use Rattle.wire.specs.declared.Refusal.{Refusal}
+use Rattle.wire.specs.Cursors.{refuse}
 use Rattle.wire.specs.Numbers.{be, most16, most32, most64}
 use Rattle.values.specs.declared.ValueKind.{ValueKind}
 use Rattle.values.specs.declared.ValueKind.TheVariants as k
@@ -12,8 +14,6 @@ use Rattle.values.specs.declared.Value.{Value}
 use Rattle.values.specs.declared.Value.TheVariants as v
 use Rattle.values.specs.declared.Bits.{Bits}
 use Rattle.values.specs.declared.Bits.TheVariants.{Number, Part}
-use Rattle.values.specs.declared.TypedColumn.{TypedColumn}
-use Rattle.values.specs.declared.TypedColumn.TheVariants as c
 
 -- THE TABLE: a type's OID, how many bytes its values have, and the largest number that they may spell. Raw has no line: all 0
 
@@ -83,10 +83,10 @@ abbrev pub allowed : ValueKind → (count n : ℕ) → Bool
 allowed x count n = has_width x count && leb n (row_of x).most
 
 -- the value of `count` bytes at `start`, or 17 at its first byte
-unfoldable pub typed_value : List ℕ → ValueKind → (start count : ℕ) → TypedColumn
+unfoldable pub typed_value : List ℕ → ValueKind → (start count : ℕ) → Result Value Refusal
 typed_value xs x start count =
     let n = be (row_of x).width xs start in
-    cond (allowed x count n) (c.Value (value_of x start count n)) (c.Refused 17 start)
+    cond (allowed x count n) (Ok (value_of x start count n)) (refuse 17 start)
 
 -- WHAT EACH CASE IS: its kind, and its number's width and bits, or its place in a source
 

@@ -48,13 +48,6 @@ pub fn has_width(kind: ValueKind, count: usize) -> bool
 {
     match kind {
         ValueKind::Raw => true,
-        _ => {
-            let TypeRow {
-                oid: _,
-                width,
-                most: _,
-            } = row_of(kind);
-            count == width
-        }
+        _ => count == row_of(kind).width,
     }
 }

@@ -1,14 +1,12 @@
 #![tactic(auto)]
 // Binary values of the types whose values are numbers, read by a type OID and written back: the words that reading answers in.
-use columns::Position;
-
 mod kinds;
 mod readers;
 mod reading;
 mod writing;
 
 pub use kinds::{kind_of_type, row_of};
-pub use readers::{step_typed, typed_at};
+pub use readers::step_typed;
 pub use reading::typed_step;
 pub use writing::{bits_of, kind_of, write_bits, write_value};
 
@@ -54,27 +52,4 @@ pub enum Value {
 pub enum Bits {
     Number { width: usize, number: u64 },
     Part { start: usize, length: usize },
-}
-
-// What a step gives.
-#[derive(Clone, Copy)]
-pub enum TypedColumn {
-    Value(Value),
-    Over,
-    Refused { number: u8, offset: usize },
-}
-
-// A typed column, and where stepping stands after it.
-#[derive(Clone, Copy)]
-pub struct TypedStep {
-    pub column: TypedColumn,
-    pub next: Position,
-}
-
-// The same with its position taken apart.
-#[derive(Clone, Copy)]
-pub struct TypedMoved {
-    pub column: TypedColumn,
-    pub offset: usize,
-    pub left: usize,
 }

@@ -1,13 +1,13 @@
 // A binary value read by its type, and one step past it from any position.
-ghost use Rattle.std.specs.Prelude.{◌≡◌, ◌+◌, ◌≤◌, length};
-ghost use Rattle.wire.specs.declared.Cursor.TheVariants.{At};
+ghost use Rattle.std.specs.Prelude.{◌≡◌, ◌+◌, ◌≤◌, length, Ok};
+ghost use Rattle.wire.specs.Readers.{given, stands};
 ghost use Rattle.wire.specs.Fields.{number_field};
 ghost use Rattle.values.specs.Types.{row_of, float4_of, float8_of, value_of, typed_value};
-ghost use Rattle.values.specs.Steps.{moved_by, typed_step};
+ghost use Rattle.values.specs.Steps.{binary_field, typed_of, typed_step};
 
-use crate::{TypedColumn, TypedStep, Value, ValueKind, kinds};
-use columns::Position;
-use wire::{Cursor, Field8, Field16, Field32, Field64, FieldSpan, Refusal, Span};
+use crate::{Value, ValueKind, kinds};
+use columns::{Position, Step};
+use wire::{Reader, Refusal};
 
 // The value of a pattern of 32 bits. Without the sign a NaN's pattern is above the infinity's.
 fn float4_of(n: u32) -> Value
@@ -39,12 +39,12 @@ fn valued(kind: ValueKind, start: usize, count: usize, number: u64) -> Value
 {
     match kind {
         ValueKind::Bool => Value::Bool(number == 1),
-        ValueKind::Int2 => Value::Int2(wire::signed16(number as u16)),
-        ValueKind::Int4 => Value::Int4(wire::signed32(number as u32)),
-        ValueKind::Int8 => Value::Int8(wire::signed64(number)),
+        ValueKind::Int2 => Value::Int2((number as u16).cast_signed()),
+        ValueKind::Int4 => Value::Int4((number as u32).cast_signed()),
+        ValueKind::Int8 => Value::Int8(number.cast_signed()),
         ValueKind::Float4 => float4_of(number as u32),
         ValueKind::Float8 => float8_of(number),
-        ValueKind::TimestampTz => Value::TimestampTz(wire::signed64(number)),
+        ValueKind::TimestampTz => Value::TimestampTz(number.cast_signed()),
         ValueKind::Raw => Value::Raw {
             start,
             length: count,
@@ -53,96 +53,88 @@ fn valued(kind: ValueKind, start: usize, count: usize, number: u64) -> Value
 }
 
 // The number of as many bytes as the kind's values have, at most the largest that they may spell.
-fn number_of(message: &[u8], kind: ValueKind, start: usize) -> Field64
+fn number_of(message: &[u8], kind: ValueKind, start: usize) -> Result<u64, Refusal>
     requires { start ≤ length message.now }
-    ensures { result ≡ number_field (row_of kind).width 0 (row_of kind).most 17 message.now (At start) }
+    ensures { result ≡ given (number_field (row_of kind).width 0 (row_of kind).most 17 message.now (Ok start)) }
 {
-    let at = Cursor::At(start);
+    let mut r = Reader {
+        bytes: message,
+        next: Ok(start),
+    };
     match kind {
-        ValueKind::Bool => {
-            let Field8 { value, next } = wire::number8(message, at, 0, 1, Refusal::VALUE);
-            let value = value as u64;
-            Field64 { value, next }
-        }
-        ValueKind::Int2 => {
-            let Field16 { value, next } = wire::number16(message, at, 0, u16::MAX, Refusal::VALUE);
-            let value = value as u64;
-            Field64 { value, next }
-        }
+        ValueKind::Bool => Ok(r.number::<u8>(0, 1, Refusal::VALUE)? as u64),
+        ValueKind::Int2 => Ok(r.number::<u16>(0, u16::MAX, Refusal::VALUE)? as u64),
         ValueKind::Int4 | ValueKind::Float4 => {
-            let Field32 { value, next } = wire::number32(message, at, 0, u32::MAX, Refusal::VALUE);
-            let value = value as u64;
-            Field64 { value, next }
+            Ok(r.number::<u32>(0, u32::MAX, Refusal::VALUE)? as u64)
         }
         ValueKind::Int8 | ValueKind::Float8 | ValueKind::TimestampTz => {
-            wire::number64(message, at, 0, u64::MAX, Refusal::VALUE)
+            r.number::<u64>(0, u64::MAX, Refusal::VALUE)
         }
-        ValueKind::Raw => Field64 { value: 0, next: at },
+        ValueKind::Raw => Ok(0),
     }
 }
 
 // The value of `count` bytes at `start`, read as its type says.
-fn typed_value(message: &[u8], kind: ValueKind, start: usize, count: usize) -> TypedColumn
+fn typed_value(
+    message: &[u8],
+    kind: ValueKind,
+    start: usize,
+    count: usize,
+) -> Result<Value, Refusal>
     requires { start + count ≤ length message.now }
     ensures { result ≡ typed_value message.now kind start count }
 {
-    if kinds::has_width(kind, count) {
-        let Field64 { value, next } = number_of(message, kind, start);
-        match next {
-            Cursor::Refused { number, offset } => TypedColumn::Refused { number, offset },
-            Cursor::At(_) => {
-                let value = valued(kind, start, count, value);
-                TypedColumn::Value(value)
-            }
-        }
-    } else {
-        TypedColumn::Refused {
+    if !kinds::has_width(kind, count) {
+        return Err(Refusal {
             number: Refusal::VALUE,
             offset: start,
-        }
+        });
     }
+    let number = number_of(message, kind, start)?;
+    Ok(valued(kind, start, count, number))
 }
 
-// Where stepping stands after a column: past a value, else where it was.
-fn moved(column: TypedColumn, to: Position, from: Position) -> Position
-    ensures { result ≡ moved_by column to from }
+// The value of a `b` column.
+#[tactic(auto, unfolding(wire::specs::Fields::value_field, wire::specs::Fields::number_field, wire::specs::Fields::bytes_field))]
+fn typed_item(r: &mut Reader, type_oid: u32) -> Result<Value, Refusal>
+    ensures { (result ≡ typed_of r.old.bytes.now type_oid (binary_field r.old.bytes.now r.old.next)) × (r.new ≡ stands r.old (binary_field r.old.bytes.now r.old.next).next) }
 {
-    match column {
-        TypedColumn::Value(_) => to,
-        TypedColumn::Over => from,
-        TypedColumn::Refused {
-            number: _,
-            offset: _,
-        } => from,
-    }
+    r.letter(b"b")?;
+    let value = r.value()?;
+    typed_value(
+        r.bytes,
+        kinds::kind_of_type(type_oid),
+        value.start,
+        value.length,
+    )
 }
 
 // One step past a `b` column, read by its type OID. Another letter is refused there; so is a value that its type forbids. After a
 // refusal, and when the tuple is over, stepping stands where it was.
-pub fn typed_step(message: &[u8], position: Position, type_oid: u32) -> TypedStep
+pub fn typed_step(message: &[u8], position: Position, type_oid: u32) -> Step<Value>
     ensures { result ≡ typed_step message.now position type_oid }
 {
-    let Position { offset, left } = position;
-    if left == 0 {
-        return TypedStep {
-            column: TypedColumn::Over,
+    if position.left == 0 {
+        return Step {
+            item: Ok(None),
             next: position,
         };
     }
-    let Field8 { value: _, next } = wire::letter(message, Cursor::At(offset), b"b");
-    let FieldSpan { value, next } = wire::value(message, next);
-    match next {
-        Cursor::Refused { number, offset } => TypedStep {
-            column: TypedColumn::Refused { number, offset },
+    let mut r = Reader {
+        bytes: message,
+        next: Ok(position.offset),
+    };
+    match typed_item(&mut r, type_oid) {
+        Err(refusal) => Step {
+            item: Err(refusal),
             next: position,
         },
-        Cursor::At(end) => {
-            let Span { start, length } = value;
-            let kind = kinds::kind_of_type(type_oid);
-            let column = typed_value(message, kind, start, length);
-            let left = left - 1;
-            let next = moved(column, Position { offset: end, left }, position);
-            TypedStep { column, next }
-        }
+        Ok(value) => Step {
+            item: Ok(Some(value)),
+            next: Position {
+                offset: r.offset(),
+                left: position.left - 1,
+            },
+        },
     }
 }

@@ -2,13 +2,13 @@
 ghost use Rattle.std.specs.Prelude.{◌≡◌};
 ghost use Rattle.std.specs.Float.{binary32, binary64};
 ghost use Rattle.std.specs.Float.Ieee.{to_bits};
-ghost use Rattle.writer.specs.Answer.{Settles, refusal};
+ghost use Rattle.wire.specs.Cursors.{refuse};
+ghost use Rattle.writer.specs.Answer.{Settles};
 ghost use Rattle.values.specs.Types.{kind_of, bits_of};
 ghost use Rattle.values.specs.Writes.{written, write_value};
 
 use crate::{Bits, Value, ValueKind};
 use wire::Refusal;
-use writer::Written;
 
 // The pattern of a float. A NaN that was made up, which has no pattern of its own, gets the usual one.
 fn float4_bits(x: f32) -> u32
@@ -41,14 +41,14 @@ pub fn bits_of(value: Value) -> Bits
 {
     match value {
         Value::Bool(b) => number(1, b as u64),
-        Value::Int2(v) => number(2, wire::bits16(v) as u64),
-        Value::Int4(v) => number(4, wire::bits32(v) as u64),
-        Value::Int8(v) => number(8, wire::bits64(v)),
+        Value::Int2(v) => number(2, v.cast_unsigned() as u64),
+        Value::Int4(v) => number(4, v.cast_unsigned() as u64),
+        Value::Int8(v) => number(8, v.cast_unsigned()),
         Value::Float4(x) => number(4, float4_bits(x) as u64),
         Value::Float4Nan(n) => number(4, n as u64),
         Value::Float8(x) => number(8, float8_bits(x)),
         Value::Float8Nan(n) => number(8, n),
-        Value::TimestampTz(v) => number(8, wire::bits64(v)),
+        Value::TimestampTz(v) => number(8, v.cast_unsigned()),
         Value::Raw { start, length } => Bits::Part { start, length },
     }
 }
@@ -71,14 +71,14 @@ pub fn kind_of(value: Value) -> ValueKind
     }
 }
 
-fn refused(number: u8) -> Written
-    ensures { result ≡ refusal number 0 }
+fn refused(number: u8) -> Result<usize, Refusal>
+    ensures { result ≡ refuse number 0 }
 {
-    Written::Refused(Refusal { number, offset: 0 })
+    Err(Refusal { number, offset: 0 })
 }
 
 // The bytes at the front of an output, and how many they are.
-pub fn write_bits(bits: Bits, source: &[u8], out: &mut [u8]) -> Written
+pub fn write_bits(bits: Bits, source: &[u8], out: &mut [u8]) -> Result<usize, Refusal>
     ensures { Settles (written bits source.now) out.old result out.new }
 {
     match bits {
@@ -87,7 +87,7 @@ pub fn write_bits(bits: Bits, source: &[u8], out: &mut [u8]) -> Written
                 return refused(Refusal::OUTPUT);
             }
             copying::lay_number(out, width, number);
-            Written::Length(width)
+            Ok(width)
         }
         Bits::Part { start, length } => {
             if source.len() < start {
@@ -101,13 +101,13 @@ pub fn write_bits(bits: Bits, source: &[u8], out: &mut [u8]) -> Written
             }
             let end = start + length;
             copying::lay_part(out, &source[start..end]);
-            Written::Length(length)
+            Ok(length)
         }
     }
 }
 
 // The bytes of a value at the front of an output, and how many they are.
-pub fn write_value(value: Value, source: &[u8], out: &mut [u8]) -> Written
+pub fn write_value(value: Value, source: &[u8], out: &mut [u8]) -> Result<usize, Refusal>
     ensures { Settles (write_value value source.now) out.old result out.new }
 {
     let bits = bits_of(value);

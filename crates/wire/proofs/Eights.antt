@@ -17,11 +17,32 @@ low_more k v b h =
     rw (d, m)
 
 -- one byte before k bytes of a list
-pub spells_more :
+spells_more :
     (xs : List ℕ) (i k v : ℕ) → i < length xs → get_or xs i 0 < 256
     → low_bytes k v ≡ take k (drop (suc i) xs) → low_bytes (suc k) (v * 256 + get_or xs i 0) ≡ take (suc k) (drop i xs)
 spells_more xs i k v h b e =
     low_more k v (get_or xs i 0) b ∙ ap (λ (ys : List ℕ). get_or xs i 0 ∷ ys) e ∙ sym (ap (λ (ys : List ℕ). take (suc k) ys) (drop-cons xs i 0 h))
+
+-- the number that k bytes of a list spell, from place i + j on
+unfoldable pub spelt : ℕ → List ℕ → ℕ → ℕ → ℕ
+spelt zero xs i j = 0
+spelt (suc k) xs i j = spelt k xs i (suc j) * 256 + get_or xs (i + j) 0
+
+spelt_is :
+    (k : ℕ) (xs : List ℕ) (i j : ℕ) → i + j + k ≤ length xs → ((p : ℕ) → get_or xs p 0 < 256)
+    → low_bytes k (spelt k xs i j) ≡ take k (drop (i + j) xs)
+unfolding low_bytes spelt
+spelt_is zero xs i j h b = refl
+spelt_is (suc k) xs i j h b =
+    let place : i + suc j ≡ suc (i + j) = omega arith in
+    spells_more xs (i + j) k (spelt k xs i (suc j)) (omega (arith, h)) (b (i + j)) (rw place at (spelt_is k xs i (suc j) (omega (arith, h)) b))
+
+pub spells :
+    (k : ℕ) (xs : List ℕ) (i n : ℕ) → i + k ≤ length xs → ((p : ℕ) → get_or xs p 0 < 256)
+    → n ≡ spelt k xs i 0 → low_bytes k n ≡ take k (drop i xs)
+spells k xs i n h b e =
+    let place : i + 0 ≡ i = omega arith in
+    rw e (rw place at (spelt_is k xs i 0 (omega (arith, h)) b))
 
 -- THE TEST
 

@@ -1,43 +1,34 @@
 -- The laws of fields, sets of letters and texts. Assumes nothing.
-use Rattle.std.proofs.Common.{◌≡◌, ℕ, ◌+◌, ◌-◌, ◌<◌, ◌≤◌, Bool, true, false, cond, ◌&&◌, leb, List, length, get_or, drop, refl, add-one, arith, drop_of_length-le, drop-cons, le-ltb, lt-ltb, eq-eqb, ne_eqb, leb-true}
-use Rattle.wire.specs.declared.Word.{Word}
-use Rattle.wire.specs.declared.Word.TheVariants.{Value, Short}
-use Rattle.wire.specs.declared.Cursor.{Cursor}
-use Rattle.wire.specs.declared.Cursor.TheVariants.{At, Refused}
-use Rattle.wire.specs.declared.Field64.{Field64}
-use Rattle.wire.specs.declared.FieldSpan.{FieldSpan}
-use Rattle.wire.specs.declared.Field8.{Field8}
+use Rattle.std.proofs.Common.{◌≡◌, ℕ, ◌+◌, ◌-◌, ◌<◌, ◌≤◌, Bool, true, false, cond, ◌&&◌, leb, ◌||◌, List, [], ◌∷◌, length, get_or, drop, refl, ap, ◌==◌, add-one, arith, drop_of_length-le, drop-cons, le-ltb, lt-ltb, eq-eqb, ne_eqb, leb-true}
+use Rattle.std.specs.Prelude.{Option, Some, None, Ok, Err}
+use Rattle.wire.specs.declared.Span.{Span}
+use Rattle.wire.specs.Cursors.{Cursor, refuse, Taken}
+use Rattle.std.specs.List.{list_any}
 use Rattle.wire.specs.Numbers.{word_at}
-use Rattle.wire.specs.Fields.{number_field, judged, member, until_zero, text_field, no_span, letter_field, no_letter}
+use Rattle.wire.specs.Fields.{number_field, judged, member, until_zero, text_field, no_span, letter_field}
 
 -- a number that was read is at most its field's highest
 pub value_le : (w low high n : ℕ) (xs : List ℕ) (c : Cursor) → (number_field w low high n xs c).value ≤ high
 unfolding number_field
-value_le w low high n xs (Refused m a) = omega arith
-value_le w low high n xs (At at) = word (word_at w xs at)
+value_le w low high n xs (Err r) = omega arith
+value_le w low high n xs (Ok at) = word (word_at w xs at)
   where
-    test : (a b : Bool) (v : ℕ) → leb v high ≡ b → (cond {A = Field64} (a && b) (record { value = v; next = At (at + w) }) (record { value = 0; next = Refused n at })).value ≤ high
+    test : (a b : Bool) (v : ℕ) → leb v high ≡ b → (cond {A = Taken ℕ} (a && b) (record { value = v; next = Ok (at + w) }) (record { value = 0; next = refuse n at })).value ≤ high
     test true true v e = leb-true v high e
     test true false v e = omega arith
     test false b v e = omega arith
 
-    word : (r : Word) → (judged w low high n at r).value ≤ high
-    word Short = omega arith
-    word (Value v) = test (leb low v) (leb v high) v refl
+    word : (r : Option ℕ) → (judged w low high n at r).value ≤ high
+    word None = omega arith
+    word (Some v) = test (leb low v) (leb v high) v refl
+
+-- a byte is among those of a set
+pub member_any : (set : List ℕ) (v : ℕ) → list_any (λ (x : ℕ). x == v) set ≡ member set v
+unfolding member
+member_any [] v = refl
+member_any (x ∷ xs) v = ap (λ (b : Bool). x == v || b) (member_any xs v)
 
 module _ (xs : List ℕ) (i : ℕ) where
-  pub member_here : (v : ℕ) → i < length xs → get_or xs i 0 ≡ v → member (drop i xs) v ≡ true
-  unfolding member
-  member_here v h e = rw (drop-cons xs i 0, eq-eqb (get_or xs i 0) v e)
-
-  pub member-next : (v : ℕ) → i < length xs → (get_or xs i 0 ≡ v → ⊥) → member (drop i xs) v ≡ member (drop (i + 1) xs) v
-  unfolding member
-  member-next v h e = rw (add-one, drop-cons xs i 0, ne_eqb (get_or xs i 0) v e)
-
-  pub member_end : (v : ℕ) → length xs ≤ i → member (drop i xs) v ≡ false
-  unfolding member
-  member_end v h = rw (drop_of_length-le xs h)
-
   pub until_here : i < length xs → get_or xs i 0 ≡ 0 → until_zero (drop i xs) ≡ 0
   unfolding until_zero
   until_here h e = rw (drop-cons xs i 0, eq-eqb (get_or xs i 0) 0 e)
@@ -54,7 +45,7 @@ module _ (xs : List ℕ) (i : ℕ) where
 module _ (xs : List ℕ) (at : ℕ) where
   pub text_there :
       (end : ℕ) → end ≡ at + until_zero (drop at xs) → end < length xs
-      → ◌≡◌ {A = FieldSpan} (record { value = record { start = at; length = end - at }; next = At (end + 1) }) (text_field xs (At at))
+      → ◌≡◌ {A = Taken Span} (record { value = record { start = at; length = end - at }; next = Ok (end + 1) }) (text_field xs (Ok at))
   unfolding text_field
   text_there end e h =
       let l : end - at ≡ until_zero (drop at xs) = omega arith in
@@ -62,7 +53,7 @@ module _ (xs : List ℕ) (at : ℕ) where
 
   pub text_short :
       (end : ℕ) → end ≡ at + until_zero (drop at xs) → length xs ≤ end
-      → ◌≡◌ {A = FieldSpan} (no_span (Refused 2 at)) (text_field xs (At at))
+      → ◌≡◌ {A = Taken Span} (no_span (refuse 2 at)) (text_field xs (Ok at))
   unfolding text_field
   text_short end e h = rw (le-ltb (at + until_zero (drop at xs)) (length xs) (rw e at h))
 
@@ -70,14 +61,6 @@ module _ (xs : List ℕ) (at : ℕ) where
 module _ (set xs : List ℕ) (at : ℕ) where
   pub letter-good :
       at < length xs → member set (get_or xs at 0) ≡ true
-      → ◌≡◌ {A = Field8} (record { value = get_or xs at 0; next = At (at + 1) }) (letter_field set xs (At at))
+      → ◌≡◌ {A = Taken ℕ} (record { value = get_or xs at 0; next = Ok (at + 1) }) (letter_field set xs (Ok at))
   unfolding letter_field
   letter-good h m = rw (lt-ltb at (length xs) h, m)
-
-  pub letter-bad : at < length xs → member set (get_or xs at 0) ≡ false → no_letter (Refused 4 at) ≡ letter_field set xs (At at)
-  unfolding letter_field
-  letter-bad h m = rw (lt-ltb at (length xs) h, m)
-
-  pub letter_short : length xs ≤ at → no_letter (Refused 2 at) ≡ letter_field set xs (At at)
-  unfolding letter_field
-  letter_short h = rw (le-ltb at (length xs) h)

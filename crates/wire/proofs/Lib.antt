@@ -1,9 +1,8 @@
 pub mod Numbers
 pub mod Fields
 pub mod Cases
-pub mod Signed
 pub mod Values
 pub mod There
-pub mod Bits
 pub mod Tests
 pub mod Eights
+pub mod Given

@@ -1,8 +1,7 @@
 -- The laws of big-endian numbers, over the width. Assumes nothing.
-use Rattle.std.proofs.Common.{◌≡◌, ℕ, ◌+◌, ◌*◌, ◌^◌, ◌<◌, ◌≤◌, Bool, true, false, cond, leb, List, length, get_or, sym, refl, ◌∙◌, pow-suc, add-one, arith, lit<, le-leb, leb-false, leb-true}
+use Rattle.std.proofs.Common.{◌≡◌, ℕ, ◌+◌, ◌*◌, ◌^◌, ◌<◌, ◌≤◌, Bool, true, false, cond, leb, List, length, get_or, refl, pow-suc, add-one, arith, lit<, le-leb, leb-true}
 use native.Mathlib.Nat.{pow-le-pow_right}
-use borrow.Author.Tests.{lt-leb}
-use Rattle.wire.specs.declared.Word.TheVariants.{Value, Short}
+use Rattle.std.specs.Prelude.{Some, None}
 use Rattle.wire.specs.Numbers.{be, word_at}
 
 -- a number of k bytes with one byte more is a number of k + 1 bytes
@@ -18,33 +17,15 @@ unfolding be
 be_more k xs at = rw add-one
 
 module _ (k : ℕ) (xs : List ℕ) (at : ℕ) where
-  pub word_short : length xs < at + k → word_at k xs at ≡ Short
-  unfolding word_at
-  word_short h = simp (lt-leb (at + k) (length xs) h)
-
-  pub word_there : at + k ≤ length xs → word_at k xs at ≡ Value (be k xs at)
+  pub word_there : at + k ≤ length xs → word_at k xs at ≡ Some (be k xs at)
   unfolding word_at
   word_there h = simp (le-leb (at + k) (length xs) h)
 
   -- a number that was read stands there
-  pub word_value : {v : ℕ} → word_at k xs at ≡ Value v → at + k ≤ length xs
+  pub word_value : {v : ℕ} → word_at k xs at ≡ Some v → at + k ≤ length xs
   unfolding word_at
   word_value {v} e = go (leb (at + k) (length xs)) refl e
     where
-      go : (b : Bool) → leb (at + k) (length xs) ≡ b → cond b (Value (be k xs at)) Short ≡ Value v → at + k ≤ length xs
+      go : (b : Bool) → leb (at + k) (length xs) ≡ b → cond b (Some (be k xs at)) None ≡ Some v → at + k ≤ length xs
       go true t e = leb-true (at + k) (length xs) t
       go false t e = let z : ◌≡◌ {A = ℕ} 0 1 = cc in absurd (omega arith)
-
-  -- and it is what the bytes spell
-  pub word-is : {v : ℕ} → word_at k xs at ≡ Value v → v ≡ be k xs at
-  word-is {v} e =
-      let same : Value (be k xs at) ≡ Value v = sym (word_there (word_value e)) ∙ e in
-      cc
-
-  pub word_none : word_at k xs at ≡ Short → length xs < at + k
-  unfolding word_at
-  word_none e = go (leb (at + k) (length xs)) refl e
-    where
-      go : (b : Bool) → leb (at + k) (length xs) ≡ b → cond b (Value (be k xs at)) Short ≡ Short → length xs < at + k
-      go true t e = let z : ◌≡◌ {A = ℕ} 0 1 = cc in absurd (omega arith)
-      go false t e = leb-false (at + k) (length xs) t

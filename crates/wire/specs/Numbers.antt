@@ -1,7 +1,5 @@
 -- To be believed (demand 1). Big-endian numbers in a list of bytes, over the width.
-use Rattle.std.specs.Prelude.{ℕ, zero, suc, ◌+◌, ◌*◌, cond, List, length, nat_le, slice_index}
-use Rattle.wire.specs.declared.Word.{Word}
-use Rattle.wire.specs.declared.Word.TheVariants.{Value, Short}
+use Rattle.std.specs.Prelude.{ℕ, zero, suc, ◌+◌, ◌*◌, cond, List, length, Option, Some, None, nat_le, slice_index}
 
 -- the largest number of 16, 32 and 64 bits
 abbrev pub most16 : ℕ
@@ -19,5 +17,5 @@ be zero xs at = 0
 be (suc k) xs at = be k xs at * 256 + slice_index xs (at + k)
 
 -- the number of k bytes at `at`, where the bytes are there
-unfoldable pub word_at : ℕ → List ℕ → ℕ → Word
-word_at k xs at = cond (nat_le (at + k) (length xs)) (Value (be k xs at)) Short
+unfoldable pub word_at : ℕ → List ℕ → ℕ → Option ℕ
+word_at k xs at = cond (nat_le (at + k) (length xs)) (Some (be k xs at)) None

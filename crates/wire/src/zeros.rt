@@ -14,13 +14,16 @@ fn eight_at(s: &[u8], at: usize) -> u64
     requires { at + 8 ≤ length s.now }
     ensures { low_bytes 8 result ≡ take 8 (drop at s.now) }
 {
-    let mut v: u64 = 0;
-    let mut k: usize = 8;
-    while 0 < k {
-        k -= 1;
-        v = v * 256 + s[at + k] as u64;
-    }
-    v
+    u64::from_le_bytes([
+        s[at],
+        s[at + 1],
+        s[at + 2],
+        s[at + 3],
+        s[at + 4],
+        s[at + 5],
+        s[at + 6],
+        s[at + 7],
+    ])
 }
 
 // Whether one of the eight bytes of a number is zero. The difference and the complement both have a byte's top bit at the lowest zero byte,
@@ -40,6 +43,7 @@ fn skip_eights(s: &[u8], at: usize) -> usize
         return at;
     }
     let last = s.len() - 8;
+    // tried: a `for` over how many eights there are; Relations with short names then took a tenth longer to read
     let mut i = at;
     while i <= last {
         if has_zero_byte(eight_at(s, i)) {
@@ -54,12 +58,11 @@ fn skip_eights(s: &[u8], at: usize) -> usize
 pub fn zero_from(s: &[u8], at: usize) -> usize
     ensures { result ≡ at + until_zero (drop at s.now) }
 {
-    let mut i = skip_eights(s, at);
-    while i < s.len() {
+    let start = skip_eights(s, at);
+    for i in start..s.len() {
         if s[i] == 0 {
             return i;
         }
-        i += 1;
     }
-    i
+    start.max(s.len())
 }

@@ -1,4 +1,3 @@
-pub mod Judge
 pub mod Stores
 pub mod Whole
 pub mod Old

@@ -1,31 +1,38 @@
+#![tactic(auto, using(crate::proofs::Stores::lengths))]
 // The messages that a transaction's work makes: Insert, Update, Delete, Truncate and the logical message.
-ghost use Rattle.std.specs.Prelude.{◌≡◌, [], ◌∷◌, ◌≤◌, length};
-ghost use Rattle.wire.specs.declared.Cursor.TheVariants.{At};
+ghost use Rattle.std.specs.Prelude.{◌≡◌, List, [], ℕ, ◌∷◌, ◌≤◌, length, Ok};
 ghost use Rattle.message.specs.declared.Message.TheVariants as a;
 ghost use Rattle.message.specs.Layout.{id, tuple_end, groups_end};
-ghost use Rattle.message.specs.Pieces.{message_pieces, bytes_of};
+ghost use Rattle.message.specs.Pieces.{message_pieces, message_end, bytes_of};
 ghost use Rattle.message.specs.Write.{write_message};
 ghost use Rattle.writer.specs.Answer.{Settles};
 ghost use Rattle.writer.specs.Store.{Stored, old_end};
 
-use crate::{Written, judging, laying};
-use message::{Delete, Insert, LogicalMessage, Truncate, Update, Version, kind};
-use wire::{Cursor, Refusal, Span};
+use crate::judging::{self, Reach};
+use crate::laying::Pen;
+use message::{Delete, Insert, Kind, LogicalMessage, Truncate, Update, Version};
+use wire::{Cursor, Refusal};
 
 fn store_insert(out: &mut [u8], m: Insert, source: &[u8], in_block: bool, end: Cursor)
-    requires { (end ≡ tuple_end source.now (At m.tuple)) × (length (bytes_of (message_pieces in_block (a.Insert m) source.now)) ≤ length out.old) }
+    requires { (end ≡ tuple_end source.now (Ok m.tuple)) × (length (bytes_of (message_pieces in_block (a.Insert m) source.now)) ≤ length out.old) }
     ensures { Stored (bytes_of (message_pieces in_block (a.Insert m) source.now)) out.old out.new }
 {
-    let Insert {
-        xid,
-        relation,
-        tuple,
-    } = m;
-    let at = laying::put_byte(out, 0, b'I');
-    let at = laying::put_xid(out, at, in_block, xid);
-    let at = laying::put_number(out, at, 4, relation as u64);
-    let at = laying::put_byte(out, at, b'N');
-    laying::put_tuple(out, at, source, tuple, end);
+    let mut pen = Pen { out, at: 0 };
+    pen.byte(b'I');
+    pen.xid(in_block, m.xid);
+    pen.number(m.relation);
+    pen.byte(b'N');
+    pen.section(source, m.tuple, end);
+}
+
+fn judge_insert(version: Version, in_block: bool, m: Insert, end: Cursor) -> Reach
+    ensures { (src : List ℕ) → end ≡ tuple_end src (Ok m.tuple) → result.end ≡ message_end version in_block (a.Insert m) src }
+{
+    Reach::open(version, in_block, Kind::Insert)
+        .xid(in_block, m.xid)
+        .id(m.relation)
+        .bytes(1)
+        .section(m.tuple, end)
 }
 
 pub fn write_insert(
@@ -34,28 +41,13 @@ pub fn write_insert(
     m: Insert,
     source: &[u8],
     out: &mut [u8],
-) -> Written
+) -> Result<usize, Refusal>
     ensures { Settles (write_message version in_block (a.Insert m) source.now) out.old result out.new }
 {
-    let Insert {
-        xid,
-        relation,
-        tuple,
-    } = m;
-    let next = judging::open(version, in_block, kind::INSERT);
-    let end = judging::judge_tuple(source, tuple);
-    let next = judging::advance(next, 0, judging::judge_xid(in_block, xid));
-    let next = judging::advance(next, 0, judging::judge_id(relation));
-    let next = judging::advance(next, 0, Cursor::At(1));
-    let next = judging::advance(next, tuple, end);
-    let next = judging::fit(next, out.len());
-    match next {
-        Cursor::Refused { number, offset } => judging::refused(number, offset),
-        Cursor::At(n) => {
-            store_insert(out, m, source, in_block, end);
-            Written::Length(n)
-        }
-    }
+    let end = judging::tuple_end(source, m.tuple);
+    let n = judge_insert(version, in_block, m, end).fit(out.len())?;
+    store_insert(out, m, source, in_block, end);
+    Ok(n)
 }
 
 fn store_update(
@@ -66,21 +58,27 @@ fn store_update(
     middle: Cursor,
     end: Cursor,
 )
-    requires { (middle ≡ old_end source.now m.old) × (end ≡ tuple_end source.now (At m.tuple)) × (length (bytes_of (message_pieces in_block (a.Update m) source.now)) ≤ length out.old) }
+    requires { (middle ≡ old_end source.now m.old) × (end ≡ tuple_end source.now (Ok m.tuple)) × (length (bytes_of (message_pieces in_block (a.Update m) source.now)) ≤ length out.old) }
     ensures { Stored (bytes_of (message_pieces in_block (a.Update m) source.now)) out.old out.new }
 {
-    let Update {
-        xid,
-        relation,
-        old,
-        tuple,
-    } = m;
-    let at = laying::put_byte(out, 0, b'U');
-    let at = laying::put_xid(out, at, in_block, xid);
-    let at = laying::put_number(out, at, 4, relation as u64);
-    let at = laying::put_old(out, at, source, old, middle);
-    let at = laying::put_byte(out, at, b'N');
-    laying::put_tuple(out, at, source, tuple, end);
+    let mut pen = Pen { out, at: 0 };
+    pen.byte(b'U');
+    pen.xid(in_block, m.xid);
+    pen.number(m.relation);
+    pen.old(source, m.old, middle);
+    pen.byte(b'N');
+    pen.section(source, m.tuple, end);
+}
+
+fn judge_update(version: Version, in_block: bool, m: Update, middle: Cursor, end: Cursor) -> Reach
+    ensures { (src : List ℕ) → middle ≡ old_end src m.old → end ≡ tuple_end src (Ok m.tuple) → result.end ≡ message_end version in_block (a.Update m) src }
+{
+    Reach::open(version, in_block, Kind::Update)
+        .xid(in_block, m.xid)
+        .id(m.relation)
+        .old(m.old, middle)
+        .bytes(1)
+        .section(m.tuple, end)
 }
 
 pub fn write_update(
@@ -89,48 +87,36 @@ pub fn write_update(
     m: Update,
     source: &[u8],
     out: &mut [u8],
-) -> Written
+) -> Result<usize, Refusal>
     ensures { Settles (write_message version in_block (a.Update m) source.now) out.old result out.new }
 {
-    let Update {
-        xid,
-        relation,
-        old,
-        tuple,
-    } = m;
-    let next = judging::open(version, in_block, kind::UPDATE);
-    let middle = judging::old_end(source, old);
-    let end = judging::judge_tuple(source, tuple);
-    let next = judging::advance(next, 0, judging::judge_xid(in_block, xid));
-    let next = judging::advance(next, 0, judging::judge_id(relation));
-    let next = judging::advance_old(next, old, middle);
-    let next = judging::advance(next, 0, Cursor::At(1));
-    let next = judging::advance(next, tuple, end);
-    let next = judging::fit(next, out.len());
-    match next {
-        Cursor::Refused { number, offset } => judging::refused(number, offset),
-        Cursor::At(n) => {
-            store_update(out, m, source, in_block, middle, end);
-            Written::Length(n)
-        }
-    }
+    let middle = judging::old_end(source, m.old);
+    let end = judging::tuple_end(source, m.tuple);
+    let n = judge_update(version, in_block, m, middle, end).fit(out.len())?;
+    store_update(out, m, source, in_block, middle, end);
+    Ok(n)
 }
 
 fn store_delete(out: &mut [u8], m: Delete, source: &[u8], in_block: bool, end: Cursor)
-    requires { (end ≡ tuple_end source.now (At m.tuple)) × (length (bytes_of (message_pieces in_block (a.Delete m) source.now)) ≤ length out.old) }
+    requires { (end ≡ tuple_end source.now (Ok m.tuple)) × (length (bytes_of (message_pieces in_block (a.Delete m) source.now)) ≤ length out.old) }
     ensures { Stored (bytes_of (message_pieces in_block (a.Delete m) source.now)) out.old out.new }
 {
-    let Delete {
-        xid,
-        relation,
-        image,
-        tuple,
-    } = m;
-    let at = laying::put_byte(out, 0, b'D');
-    let at = laying::put_xid(out, at, in_block, xid);
-    let at = laying::put_number(out, at, 4, relation as u64);
-    let at = laying::put_byte(out, at, image);
-    laying::put_tuple(out, at, source, tuple, end);
+    let mut pen = Pen { out, at: 0 };
+    pen.byte(b'D');
+    pen.xid(in_block, m.xid);
+    pen.number(m.relation);
+    pen.byte(m.image);
+    pen.section(source, m.tuple, end);
+}
+
+fn judge_delete(version: Version, in_block: bool, m: Delete, end: Cursor) -> Reach
+    ensures { (src : List ℕ) → end ≡ tuple_end src (Ok m.tuple) → result.end ≡ message_end version in_block (a.Delete m) src }
+{
+    Reach::open(version, in_block, Kind::Delete)
+        .xid(in_block, m.xid)
+        .id(m.relation)
+        .letter(b"KO", m.image)
+        .section(m.tuple, end)
 }
 
 pub fn write_delete(
@@ -139,46 +125,35 @@ pub fn write_delete(
     m: Delete,
     source: &[u8],
     out: &mut [u8],
-) -> Written
+) -> Result<usize, Refusal>
     ensures { Settles (write_message version in_block (a.Delete m) source.now) out.old result out.new }
 {
-    let Delete {
-        xid,
-        relation,
-        image,
-        tuple,
-    } = m;
-    let next = judging::open(version, in_block, kind::DELETE);
-    let end = judging::judge_tuple(source, tuple);
-    let next = judging::advance(next, 0, judging::judge_xid(in_block, xid));
-    let next = judging::advance(next, 0, judging::judge_id(relation));
-    let next = judging::advance(next, 0, judging::judge_letter(b"KO", image));
-    let next = judging::advance(next, tuple, end);
-    let next = judging::fit(next, out.len());
-    match next {
-        Cursor::Refused { number, offset } => judging::refused(number, offset),
-        Cursor::At(n) => {
-            store_delete(out, m, source, in_block, end);
-            Written::Length(n)
-        }
-    }
+    let end = judging::tuple_end(source, m.tuple);
+    let n = judge_delete(version, in_block, m, end).fit(out.len())?;
+    store_delete(out, m, source, in_block, end);
+    Ok(n)
 }
 
 fn store_truncate(out: &mut [u8], m: Truncate, source: &[u8], in_block: bool, end: Cursor)
-    requires { (end ≡ groups_end (id ∷ []) source.now m.count (At m.relations)) × (length (bytes_of (message_pieces in_block (a.Truncate m) source.now)) ≤ length out.old) }
+    requires { (end ≡ groups_end (id ∷ []) source.now m.count (Ok m.relations)) × (length (bytes_of (message_pieces in_block (a.Truncate m) source.now)) ≤ length out.old) }
     ensures { Stored (bytes_of (message_pieces in_block (a.Truncate m) source.now)) out.old out.new }
 {
-    let Truncate {
-        xid,
-        count,
-        options,
-        relations,
-    } = m;
-    let at = laying::put_byte(out, 0, b'T');
-    let at = laying::put_xid(out, at, in_block, xid);
-    let at = laying::put_number(out, at, 4, count as u64);
-    let at = laying::put_number(out, at, 1, options as u64);
-    laying::put_tuple(out, at, source, relations, end);
+    let mut pen = Pen { out, at: 0 };
+    pen.byte(b'T');
+    pen.xid(in_block, m.xid);
+    pen.number(m.count);
+    pen.number(m.options);
+    pen.section(source, m.relations, end);
+}
+
+fn judge_truncate(version: Version, in_block: bool, m: Truncate, end: Cursor) -> Reach
+    ensures { (src : List ℕ) → end ≡ groups_end (id ∷ []) src m.count (Ok m.relations) → result.end ≡ message_end version in_block (a.Truncate m) src }
+{
+    Reach::open(version, in_block, Kind::Truncate)
+        .xid(in_block, m.xid)
+        .number(1, message::MOST_RELATIONS, Refusal::RANGE, m.count)
+        .byte(3, m.options)
+        .section(m.relations, end)
 }
 
 pub fn write_truncate(
@@ -187,60 +162,44 @@ pub fn write_truncate(
     m: Truncate,
     source: &[u8],
     out: &mut [u8],
-) -> Written
+) -> Result<usize, Refusal>
     ensures { Settles (write_message version in_block (a.Truncate m) source.now) out.old result out.new }
 {
-    let Truncate {
-        xid,
-        count,
-        options,
-        relations,
-    } = m;
-    let end = reader::relation_oids(source, Cursor::At(relations), count);
-    let next = judging::open(version, in_block, kind::TRUNCATE);
-    let next = judging::advance(next, 0, judging::judge_xid(in_block, xid));
-    let next = judging::advance(
-        next,
-        0,
-        judging::judge_number(
-            4,
-            1,
-            message::MOST_RELATIONS as u64,
-            Refusal::RANGE,
-            count as u64,
-        ),
-    );
-    let next = judging::advance(next, 0, judging::judge_byte(3, options));
-    let next = judging::advance(next, relations, end);
-    let next = judging::fit(next, out.len());
-    match next {
-        Cursor::Refused { number, offset } => judging::refused(number, offset),
-        Cursor::At(n) => {
-            store_truncate(out, m, source, in_block, end);
-            Written::Length(n)
-        }
-    }
+    let end = reader::relation_oids(source, Ok(m.relations), m.count);
+    let n = judge_truncate(version, in_block, m, end).fit(out.len())?;
+    store_truncate(out, m, source, in_block, end);
+    Ok(n)
 }
 
 fn store_logical_message(out: &mut [u8], m: LogicalMessage, source: &[u8], in_block: bool)
     requires { length (bytes_of (message_pieces in_block (a.Message m) source.now)) ≤ length out.old }
     ensures { Stored (bytes_of (message_pieces in_block (a.Message m) source.now)) out.old out.new }
 {
-    let LogicalMessage {
-        xid,
-        flags,
-        lsn,
-        prefix,
-        content,
-    } = m;
-    let Span { start, length } = content;
-    let at = laying::put_byte(out, 0, b'M');
-    let at = laying::put_xid(out, at, in_block, xid);
-    let at = laying::put_number(out, at, 1, flags as u64);
-    let at = laying::put_number(out, at, 8, lsn);
-    let at = laying::put_text(out, at, source, prefix);
-    let at = laying::put_number(out, at, 4, length as u64);
-    laying::put_part(out, at, source, start, length);
+    let mut pen = Pen { out, at: 0 };
+    pen.byte(b'M');
+    pen.xid(in_block, m.xid);
+    pen.number(m.flags);
+    pen.number(m.lsn);
+    pen.text(source, m.prefix);
+    pen.digits(4, m.content.length as u64);
+    pen.part(source, m.content.start, m.content.length);
+}
+
+fn judge_logical_message(
+    version: Version,
+    in_block: bool,
+    m: LogicalMessage,
+    source: &[u8],
+) -> Reach
+    ensures { result.end ≡ message_end version in_block (a.Message m) source.now }
+{
+    Reach::open(version, in_block, Kind::Message)
+        .xid(in_block, m.xid)
+        .byte(1, m.flags)
+        .long(m.lsn)
+        .text(source, m.prefix)
+        .bytes(4)
+        .content(source, m.content)
 }
 
 pub fn write_logical_message(
@@ -249,29 +208,10 @@ pub fn write_logical_message(
     m: LogicalMessage,
     source: &[u8],
     out: &mut [u8],
-) -> Written
+) -> Result<usize, Refusal>
     ensures { Settles (write_message version in_block (a.Message m) source.now) out.old result out.new }
 {
-    let LogicalMessage {
-        xid,
-        flags,
-        lsn,
-        prefix,
-        content,
-    } = m;
-    let next = judging::open(version, in_block, kind::MESSAGE);
-    let next = judging::advance(next, 0, judging::judge_xid(in_block, xid));
-    let next = judging::advance(next, 0, judging::judge_byte(1, flags));
-    let next = judging::advance(next, 0, judging::judge_long(lsn));
-    let next = judging::advance(next, 0, judging::judge_text(source, prefix));
-    let next = judging::advance(next, 0, Cursor::At(4));
-    let next = judging::advance(next, 0, judging::judge_content(source, content));
-    let next = judging::fit(next, out.len());
-    match next {
-        Cursor::Refused { number, offset } => judging::refused(number, offset),
-        Cursor::At(n) => {
-            store_logical_message(out, m, source, in_block);
-            Written::Length(n)
-        }
-    }
+    let n = judge_logical_message(version, in_block, m, source).fit(out.len())?;
+    store_logical_message(out, m, source, in_block);
+    Ok(n)
 }

@@ -1,108 +1,127 @@
-// Storing a field at its place, where there is room for it.
+// Laying the fields of a message one after another, where there is room for them.
 ghost use Rattle.std.specs.Prelude.{◌≡◌, [], ◌∷◌, ◌++◌, ◌+◌, ◌≤◌, length};
-ghost use Rattle.std.proofs.lemmas.List.Edits.{sets};
+ghost use Rattle.copying.specs.Copies.{laid_in};
 ghost use Rattle.message.specs.Encode.{digits, cut, from_to};
 ghost use Rattle.message.specs.Pieces.{xid_bytes};
-ghost use Rattle.writer.specs.Store.{spot, put, old_bytes};
+ghost use Rattle.writer.specs.Store.{Lays, old_bytes};
 
 use crate::judging;
 use message::OldTuple;
-use wire::{Cursor, Span};
+use wire::{Cursor, Number, Span};
 
-pub fn put_byte(out: &mut [u8], at: usize, b: u8) -> usize
-    requires { at + 1 ≤ length out.old }
-    ensures { (spot out.new result ≡ put (b ∷ []) (spot out.old at)) × (result ≡ at + 1) }
-{
-    out[at] = b;
-    at + 1
-}
-
-pub fn put_number(out: &mut [u8], at: usize, width: usize, value: u64) -> usize
-    requires { at + width ≤ length out.old }
-    ensures { (spot out.new result ≡ put (digits width value) (spot out.old at)) × (result ≡ at + width) }
-{
-    copying::lay_number(&mut out[at..], width, value);
-    at + width
-}
-
-pub fn put_xid(out: &mut [u8], at: usize, in_block: bool, xid: u32) -> usize
-    requires { at + length (xid_bytes in_block xid) ≤ length out.old }
-    ensures { (spot out.new result ≡ put (xid_bytes in_block xid) (spot out.old at)) × (result ≡ at + length (xid_bytes in_block xid)) }
-{
-    if in_block {
-        return put_number(out, at, 4, xid as u64);
-    }
-    at
-}
-
-pub fn put_part(out: &mut [u8], at: usize, source: &[u8], start: usize, n: usize) -> usize
-    requires { at + length (cut source.now start n) ≤ length out.old }
-    ensures { (spot out.new result ≡ put (cut source.now start n) (spot out.old at)) × (result ≡ at + length (cut source.now start n)) }
+// `n` bytes of the source from `start`, or those that it has, to the front of a slice; and how many. A function of its own, so that a pen,
+// whose methods are inlined, stays in registers.
+fn lay(tail: &mut [u8], source: &[u8], start: usize, n: usize) -> usize
+    ensures { (tail.new ≡ laid_in tail.old (cut source.now start n)) × (result ≡ length (cut source.now start n)) }
 {
     let part = judging::cut_of(source, start, n);
-    copying::lay_part(&mut out[at..], part);
-    at + part.len()
+    copying::lay_part(tail, part);
+    part.len()
 }
 
-// A text of the source, and its zero byte.
-pub fn put_text(out: &mut [u8], at: usize, source: &[u8], text: Span) -> usize
-    requires { at + length (cut source.now text.start text.length) + 1 ≤ length out.old }
-    ensures { (spot out.new result ≡ put (cut source.now text.start text.length ++ (0 ∷ [])) (spot out.old at)) × (result ≡ at + length (cut source.now text.start text.length) + 1) }
-{
-    let Span { start, length } = text;
-    let at = put_part(out, at, source, start, length);
-    put_byte(out, at, 0)
+// An output, and where laying stands in it.
+#[derive(Drop)]
+pub struct Pen<'a> {
+    pub out: &'a mut [u8],
+    pub at: usize,
 }
 
-// What lies in the source in its layout goes into the rest of the output.
-fn write_tuple(tail: &mut [u8], source: &[u8], start: usize, end: Cursor) -> usize
-    requires { length (from_to source.now start end) ≤ length tail.old }
-    ensures { (tail.new ≡ sets tail.old 0 (from_to source.now start end)) × (result ≡ length (from_to source.now start end)) }
-{
-    let end = wire::position(end);
-    if start <= end {
-        if end <= source.len() {
-            let tuple = &source[start..end];
-            copying::lay_part(tail, tuple);
-            return tuple.len();
+impl<'a> Pen<'a> {
+    #[inline(always)]
+    pub fn byte(&mut self, b: u8)
+        requires { self.old.at + 1 ≤ length self.old.out.now }
+        ensures same_output { self.new.out.ghost_name ≡ self.old.out.ghost_name }
+        ensures laid { Lays (b ∷ []) self.old self.new }
+    {
+        self.out[self.at] = b;
+        self.at += 1;
+    }
+
+    // `width` bytes of a number, the most significant first.
+    #[inline(always)]
+    pub fn digits(&mut self, width: usize, value: u64)
+        requires { self.old.at + width ≤ length self.old.out.now }
+        ensures same_output { self.new.out.ghost_name ≡ self.old.out.ghost_name }
+        ensures laid { Lays (digits width value) self.old self.new }
+    {
+        copying::lay_number(&mut self.out[self.at..], width, value);
+        self.at += width;
+    }
+
+    #[inline(always)]
+    pub fn number<N: Number>(&mut self, value: N)
+        requires { self.old.at + N.WIDTH ≤ length self.old.out.now }
+        ensures same_output { self.new.out.ghost_name ≡ self.old.out.ghost_name }
+        ensures laid { Lays (digits N.WIDTH (N.value value)) self.old self.new }
+    {
+        self.digits(N::WIDTH, value.wide());
+    }
+
+    // An xid, which stands only inside a stream block.
+    #[inline(always)]
+    pub fn xid(&mut self, in_block: bool, xid: u32)
+        requires { self.old.at + length (xid_bytes in_block xid) ≤ length self.old.out.now }
+        ensures same_output { self.new.out.ghost_name ≡ self.old.out.ghost_name }
+        ensures laid { Lays (xid_bytes in_block xid) self.old self.new }
+    {
+        if in_block {
+            self.number(xid);
         }
     }
-    let tuple = judging::cut_of(source, start, judging::less(end, start));
-    copying::lay_part(tail, tuple);
-    tuple.len()
-}
 
-pub fn put_tuple(out: &mut [u8], at: usize, source: &[u8], start: usize, end: Cursor) -> usize
-    requires { at + length (from_to source.now start end) ≤ length out.old }
-    ensures { (spot out.new result ≡ put (from_to source.now start end) (spot out.old at)) × (result ≡ at + length (from_to source.now start end)) }
-{
-    let n = write_tuple(&mut out[at..], source, start, end);
-    at + n
-}
+    // Bytes of the source, or those that it has.
+    #[inline(always)]
+    pub fn part(&mut self, source: &[u8], start: usize, n: usize)
+        requires { self.old.at + length (cut source.now start n) ≤ length self.old.out.now }
+        ensures same_output { self.new.out.ghost_name ≡ self.old.out.ghost_name }
+        ensures laid { Lays (cut source.now start n) self.old self.new }
+    {
+        self.at += lay(&mut self.out[self.at..], source, start, n);
+    }
 
-// A letter and a tuple.
-fn put_image(
-    out: &mut [u8],
-    at: usize,
-    letter: u8,
-    source: &[u8],
-    start: usize,
-    end: Cursor,
-) -> usize
-    requires { at + length (letter ∷ from_to source.now start end) ≤ length out.old }
-    ensures { (spot out.new result ≡ put (letter ∷ from_to source.now start end) (spot out.old at)) × (result ≡ at + length (letter ∷ from_to source.now start end)) }
-{
-    let at = put_byte(out, at, letter);
-    put_tuple(out, at, source, start, end)
-}
+    // A text of the source, and its zero byte.
+    #[inline(always)]
+    pub fn text(&mut self, source: &[u8], text: Span)
+        requires { self.old.at + length (cut source.now text.start text.length) + 1 ≤ length self.old.out.now }
+        ensures same_output { self.new.out.ghost_name ≡ self.old.out.ghost_name }
+        ensures laid { Lays (cut source.now text.start text.length ++ (0 ∷ [])) self.old self.new }
+    {
+        self.part(source, text.start, text.length);
+        self.byte(0);
+    }
 
-pub fn put_old(out: &mut [u8], at: usize, source: &[u8], old: OldTuple, end: Cursor) -> usize
-    requires { at + length (old_bytes source.now old end) ≤ length out.old }
-    ensures { (spot out.new result ≡ put (old_bytes source.now old end) (spot out.old at)) × (result ≡ at + length (old_bytes source.now old end)) }
-{
-    match old {
-        OldTuple::Nothing => at,
-        OldTuple::Key(start) => put_image(out, at, b'K', source, start, end),
-        OldTuple::Full(start) => put_image(out, at, b'O', source, start, end),
+    // What lies in the source in its layout, from `start` to `end`.
+    #[inline(always)]
+    pub fn section(&mut self, source: &[u8], start: usize, end: Cursor)
+        requires { self.old.at + length (from_to source.now start end) ≤ length self.old.out.now }
+        ensures same_output { self.new.out.ghost_name ≡ self.old.out.ghost_name }
+        ensures laid { Lays (from_to source.now start end) self.old self.new }
+    {
+        self.part(source, start, end.unwrap_or(0).saturating_sub(start));
+    }
+
+    // A letter and a tuple.
+    #[inline(always)]
+    fn image(&mut self, letter: u8, source: &[u8], start: usize, end: Cursor)
+        requires { self.old.at + length (letter ∷ from_to source.now start end) ≤ length self.old.out.now }
+        ensures same_output { self.new.out.ghost_name ≡ self.old.out.ghost_name }
+        ensures laid { Lays (letter ∷ from_to source.now start end) self.old self.new }
+    {
+        self.byte(letter);
+        self.section(source, start, end);
+    }
+
+    // An old tuple's letter and the tuple, or nothing.
+    #[inline(always)]
+    pub fn old(&mut self, source: &[u8], old: OldTuple, end: Cursor)
+        requires { self.old.at + length (old_bytes source.now old end) ≤ length self.old.out.now }
+        ensures same_output { self.new.out.ghost_name ≡ self.old.out.ghost_name }
+        ensures laid { Lays (old_bytes source.now old end) self.old self.new }
+    {
+        match old {
+            OldTuple::Nothing => {}
+            OldTuple::Key(start) => self.image(b'K', source, start, end),
+            OldTuple::Full(start) => self.image(b'O', source, start, end),
+        }
     }
 }

@@ -1,6 +1,7 @@
 #![tactic(auto)]
 // A typed message, with its parts in a source, into an output. The version and the kind are judged, the fields from left to right, then
-// the room, and then the message is stored.
+// the room, and then the message is stored. Each kind has functions of its own, since kinds differ in their fields and not only in a type;
+// what fields have in common is said once, by `Reach` and `Pen`.
 ghost use Rattle.message.specs.Write.{write_message};
 ghost use Rattle.writer.specs.Answer.{Settles};
 
@@ -22,13 +23,6 @@ pub use transactions::{
     write_stream_start, write_stream_stop,
 };
 
-// What writing gives: the length of the message that was written, or why it was not.
-#[derive(Clone, Copy)]
-pub enum Written {
-    Length(usize),
-    Refused(Refusal),
-}
-
 // Writes a message whose texts, contents, tuples, columns and OIDs lie in `source` to the front of `out`. What is refused leaves `out`
 // as it was.
 pub fn write_message(
@@ -37,7 +31,7 @@ pub fn write_message(
     message: Message,
     source: &[u8],
     out: &mut [u8],
-) -> Written
+) -> Result<usize, Refusal>
     ensures { Settles (write_message version in_block message source.now) out.old result out.new }
 {
     match message {

@@ -6,13 +6,13 @@ pub returns-then-oid-ne0 : goal.returns-then-oid-ne0
 returns-then-oid-ne0 c =
     raw_lacking c.args.value.now c.args.source.now c.args.out.now c.kind_in-kind.ensures c.in-Raw.is c.if-oid-ne0.true c.no_value.ensures
 
-pub returns-then-most-first : goal.returns-then-most-first
-returns-then-most-first c =
-    number_big c.args.value.now c.args.source.now c.args.out.now c.kind_in-kind.ensures (listed-one c.kind_in-kind.result c.in_default.not-Raw) c.row_of-width.ensures c.if-most-first.true c.no_value-then-most-first.ensures
+pub returns-then-row-first : goal.returns-then-row-first
+returns-then-row-first c =
+    number_big c.args.value.now c.args.source.now c.args.out.now c.kind_in-kind.ensures (listed-one c.kind_in-kind.result c.in_default.not-Raw) c.row_of-row.ensures c.if-row-first.true c.no_value-then-row-first.ensures
 
 pub returns-then-second-ne0 : goal.returns-then-second-ne0
 returns-then-second-ne0 c =
-    number-second c.args.value.now c.args.source.now c.args.out.now c.kind_in-kind.ensures (listed-one c.kind_in-kind.result c.in_default.not-Raw) c.row_of-width.ensures c.if-most-first.false c.if-second-ne0.true c.no_value-then-second-ne0.ensures
+    number-second c.args.value.now c.args.source.now c.args.out.now c.kind_in-kind.ensures (listed-one c.kind_in-kind.result c.in_default.not-Raw) c.row_of-row.ensures c.if-row-first.false c.if-second-ne0.true c.no_value-then-second-ne0.ensures
 
 pub returns-else-oid-ne0 : goal.returns-else-oid-ne0
 returns-else-oid-ne0 c =
@@ -20,4 +20,4 @@ returns-else-oid-ne0 c =
 
 pub returns-else-second-ne0 : goal.returns-else-second-ne0
 returns-else-second-ne0 c =
-    number_there c.args.value.now c.args.source.now c.args.out.now c.kind_in-kind.ensures (listed-one c.kind_in-kind.result c.in_default.not-Raw) c.row_of-width.ensures c.if-most-first.false c.if-second-ne0.false c.write_bits-in_default.ensures
+    number_there c.args.value.now c.args.source.now c.args.out.now c.kind_in-kind.ensures (listed-one c.kind_in-kind.result c.in_default.not-Raw) c.row_of-row.ensures c.if-row-first.false c.if-second-ne0.false c.write_bits-in_default.ensures

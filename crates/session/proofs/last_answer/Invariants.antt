@@ -1,7 +1,6 @@
-use Prim.Native.Nat.{◌≤◌, ◌-◌}
 use mathlib.Core.Path.{◌≡◌}
-use lib.ListN.{length, drop}
-use Rattle.session.specs.declared.Answer.TheVariants.{Accepted}
+use lib.ListN.{drop}
+use Rattle.session.specs.Answers.{Accepted}
 use Rattle.session.specs.Rules.{named}
 use Rattle.session.specs.Machine.{start_of}
 use Rattle.session.specs.Runs.{run}
@@ -10,7 +9,4 @@ use Rattle.session.proofs.last_answer.Given as goal
 
 -- `session::last_answer` meets its contract. Assumes nothing.
 abbrev pub invariant-loop-i : goal.invariant-loop-i
-invariant-loop-i l = (l.i ≤ length l.ends) × (last_or l.answer (run l.session (messages_in l.bytes l.from (drop l.i l.ends) (drop l.i l.tags))) ≡ last_or Accepted (run (start_of (named l.version)) (messages_in l.bytes 0 l.ends l.tags)))
-
-abbrev pub decreases-loop-i : goal.decreases-loop-i
-decreases-loop-i l = length l.ends - l.i
+invariant-loop-i l = last_or l.now.answer (run l.now.session (messages_in l.bytes l.from (drop l.i l.ends) (drop l.i l.tags))) ≡ last_or Accepted (run (start_of (named l.version)) (messages_in l.bytes 0 l.ends l.tags))

@@ -4,4 +4,4 @@ use borrow.Author.Rules.{rules}
 use Rattle.capi.proofs.flat.flatten_begin.Goals as goal
 
 pub returns : goal.returns
-returns c = rw (c.bits64.ensures, to_z-of_z w64 c.args.m.time (search rules))
+returns c = rw (c.number.ensures, c.cast_unsigned.ensures, to_z-of_z w64 c.args.m.time (search rules))

@@ -1,4 +1,4 @@
-use mathlib.Core.Option.{some}
+use Rattle.std.specs.Prelude.{Some}
 use mir.Syntax.{w64}
 use mir.Val.{to_z, of_z}
 use mir.ValLaws.{to_z-of_z}
@@ -12,20 +12,20 @@ use Rattle.capi.proofs.rows.write_begin.Goals.{After-same_row}
 taken :
     (c : After-same_row)
     → let ns = c.args.row.now in
-    Taken ns (message_in ns (some begin)) c.same_row.result
+    Taken ns (message_in ns (Some begin)) c.same_row.result
 taken c =
     record {
       it = a.Begin (record {
-        final_lsn = c.long.result;
-        time = to_z w64 (of_z w64 c.signed64.result);
-        xid = c.word.result;
+        final_lsn = c.fitting.result;
+        time = to_z w64 (of_z w64 c.cast_signed.result);
+        xid = c.fitting-3.result;
       });
       made = rw (
-        c.word.ensures,
-        to_z-of_z w64 c.signed64.result (record { sfits = c.signed64.type_inv }),
-        c.signed64.ensures,
-        c.long-2.ensures,
-        c.long.ensures,
+        c.fitting-3.ensures,
+        to_z-of_z w64 c.cast_signed.result (record { sfits = c.cast_signed.type_inv }),
+        c.cast_signed.ensures,
+        c.fitting-2.ensures,
+        c.fitting.ensures,
       );
       tested = rw (c.same_row.ensures, c.flatten_begin.ensures);
     }

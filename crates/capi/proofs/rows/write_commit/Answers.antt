@@ -1,4 +1,4 @@
-use mathlib.Core.Option.{some}
+use Rattle.std.specs.Prelude.{Some}
 use mir.Syntax.{w64}
 use mir.Val.{to_z, of_z}
 use mir.ValLaws.{to_z-of_z}
@@ -12,22 +12,22 @@ use Rattle.capi.proofs.rows.write_commit.Goals.{After-same_row}
 taken :
     (c : After-same_row)
     → let ns = c.args.row.now in
-    Taken ns (message_in ns (some commit)) c.same_row.result
+    Taken ns (message_in ns (Some commit)) c.same_row.result
 taken c =
     record {
       it = a.Commit (record {
-        flags = c.byte.result;
-        commit_lsn = c.long.result;
-        end_lsn = c.long-2.result;
-        time = to_z w64 (of_z w64 c.signed64.result);
+        flags = c.fitting.result;
+        commit_lsn = c.fitting-2.result;
+        end_lsn = c.fitting-3.result;
+        time = to_z w64 (of_z w64 c.cast_signed.result);
       });
       made = rw (
-        to_z-of_z w64 c.signed64.result (record { sfits = c.signed64.type_inv }),
-        c.signed64.ensures,
-        c.long-3.ensures,
-        c.long-2.ensures,
-        c.long.ensures,
-        c.byte.ensures,
+        to_z-of_z w64 c.cast_signed.result (record { sfits = c.cast_signed.type_inv }),
+        c.cast_signed.ensures,
+        c.fitting-4.ensures,
+        c.fitting-3.ensures,
+        c.fitting-2.ensures,
+        c.fitting.ensures,
       );
       tested = rw (c.same_row.ensures, c.flatten_commit.ensures);
     }

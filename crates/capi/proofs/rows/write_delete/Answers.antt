@@ -1,4 +1,4 @@
-use mathlib.Core.Option.{some}
+use Rattle.std.specs.Prelude.{Some}
 use Rattle.message.specs.declared.Message.TheVariants as a
 use Rattle.message.specs.Kinds.{delete}
 use Rattle.capi.specs.Flat.{message_in}
@@ -9,16 +9,16 @@ use Rattle.capi.proofs.rows.write_delete.Goals.{After-same_row}
 taken :
     (c : After-same_row)
     → let ns = c.args.row.now in
-    Taken ns (message_in ns (some delete)) c.same_row.result
+    Taken ns (message_in ns (Some delete)) c.same_row.result
 taken c =
     record {
       it = a.Delete (record {
-        xid = c.word.result;
-        relation = c.word-2.result;
-        image = c.byte.result;
-        tuple = c.offset.result;
+        xid = c.fitting.result;
+        relation = c.fitting-2.result;
+        image = c.fitting-3.result;
+        tuple = c.fitting-4.result;
       });
-      made = rw (c.offset.ensures, c.byte.ensures, c.word-2.ensures, c.word.ensures);
+      made = rw (c.fitting-4.ensures, c.fitting-3.ensures, c.fitting-2.ensures, c.fitting.ensures);
       tested = rw (c.same_row.ensures, c.flatten_delete.ensures);
     }
 

@@ -1,4 +1,4 @@
-use mathlib.Core.Option.{some}
+use Rattle.std.specs.Prelude.{Some}
 use Rattle.message.specs.declared.Message.TheVariants as a
 use Rattle.message.specs.Kinds.{insert}
 use Rattle.capi.specs.Flat.{message_in}
@@ -9,11 +9,11 @@ use Rattle.capi.proofs.rows.write_insert.Goals.{After-same_row}
 taken :
     (c : After-same_row)
     → let ns = c.args.row.now in
-    Taken ns (message_in ns (some insert)) c.same_row.result
+    Taken ns (message_in ns (Some insert)) c.same_row.result
 taken c =
     record {
-      it = a.Insert (record { xid = c.word.result; relation = c.word-2.result; tuple = c.offset.result });
-      made = rw (c.offset.ensures, c.word-2.ensures, c.word.ensures);
+      it = a.Insert (record { xid = c.fitting.result; relation = c.fitting-2.result; tuple = c.fitting-3.result });
+      made = rw (c.fitting-3.ensures, c.fitting-2.ensures, c.fitting.ensures);
       tested = rw (c.same_row.ensures, c.flatten_insert.ensures);
     }
 

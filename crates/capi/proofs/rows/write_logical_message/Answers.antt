@@ -1,4 +1,4 @@
-use mathlib.Core.Option.{some}
+use Rattle.std.specs.Prelude.{Some}
 use Rattle.message.specs.declared.Message.TheVariants as a
 use Rattle.message.specs.Kinds.{message}
 use Rattle.capi.specs.Flat.{message_in}
@@ -9,17 +9,17 @@ use Rattle.capi.proofs.rows.write_logical_message.Goals.{After-same_row}
 taken :
     (c : After-same_row)
     → let ns = c.args.row.now in
-    Taken ns (message_in ns (some message)) c.same_row.result
+    Taken ns (message_in ns (Some message)) c.same_row.result
 taken c =
     record {
       it = a.Message (record {
-        xid = c.word.result;
-        flags = c.byte.result;
-        lsn = c.long.result;
+        xid = c.fitting.result;
+        flags = c.fitting-2.result;
+        lsn = c.fitting-3.result;
         prefix = c.span.result;
         content = c.span-2.result;
       });
-      made = rw (c.span-2.ensures, c.span.ensures, c.long.ensures, c.byte.ensures, c.word.ensures);
+      made = rw (c.span-2.ensures, c.span.ensures, c.fitting-3.ensures, c.fitting-2.ensures, c.fitting.ensures);
       tested = rw (c.same_row.ensures, c.flatten_logical_message.ensures);
     }
 

@@ -1,4 +1,4 @@
-use mathlib.Core.Option.{some}
+use Rattle.std.specs.Prelude.{Some}
 use Rattle.message.specs.declared.Message.TheVariants as a
 use Rattle.message.specs.Kinds.{origin}
 use Rattle.capi.specs.Flat.{message_in}
@@ -9,11 +9,11 @@ use Rattle.capi.proofs.rows.write_origin.Goals.{After-same_row}
 taken :
     (c : After-same_row)
     → let ns = c.args.row.now in
-    Taken ns (message_in ns (some origin)) c.same_row.result
+    Taken ns (message_in ns (Some origin)) c.same_row.result
 taken c =
     record {
-      it = a.Origin (record { lsn = c.long.result; name = c.span.result });
-      made = rw (c.span.ensures, c.long.ensures);
+      it = a.Origin (record { lsn = c.fitting.result; name = c.span.result });
+      made = rw (c.span.ensures, c.fitting.ensures);
       tested = rw (c.same_row.ensures, c.flatten_origin.ensures);
     }
 

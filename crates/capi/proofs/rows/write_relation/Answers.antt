@@ -1,4 +1,4 @@
-use mathlib.Core.Option.{some}
+use Rattle.std.specs.Prelude.{Some}
 use Rattle.message.specs.declared.Message.TheVariants as a
 use Rattle.message.specs.Kinds.{relation}
 use Rattle.capi.specs.Flat.{message_in}
@@ -9,26 +9,26 @@ use Rattle.capi.proofs.rows.write_relation.Goals.{After-same_row}
 taken :
     (c : After-same_row)
     → let ns = c.args.row.now in
-    Taken ns (message_in ns (some relation)) c.same_row.result
+    Taken ns (message_in ns (Some relation)) c.same_row.result
 taken c =
     record {
       it = a.Relation (record {
-        xid = c.word.result;
-        relation = c.word-2.result;
+        xid = c.fitting.result;
+        relation = c.fitting-2.result;
         namespace = c.span.result;
         name = c.span-2.result;
-        identity = c.byte.result;
-        count = c.half.result;
-        columns = c.offset.result;
+        identity = c.fitting-3.result;
+        count = c.fitting-4.result;
+        columns = c.fitting-5.result;
       });
       made = rw (
-        c.offset.ensures,
-        c.half.ensures,
-        c.byte.ensures,
+        c.fitting-5.ensures,
+        c.fitting-4.ensures,
+        c.fitting-3.ensures,
         c.span-2.ensures,
         c.span.ensures,
-        c.word-2.ensures,
-        c.word.ensures,
+        c.fitting-2.ensures,
+        c.fitting.ensures,
       );
       tested = rw (c.same_row.ensures, c.flatten_relation.ensures);
     }

@@ -1,4 +1,4 @@
-use mathlib.Core.Option.{some}
+use Rattle.std.specs.Prelude.{Some}
 use Rattle.message.specs.declared.Message.TheVariants as a
 use Rattle.message.specs.Kinds.{stream_abort}
 use Rattle.capi.specs.Flat.{message_in}
@@ -9,11 +9,11 @@ use Rattle.capi.proofs.rows.write_stream_abort.Goals.{After-same_row}
 taken :
     (c : After-same_row)
     → let ns = c.args.row.now in
-    Taken ns (message_in ns (some stream_abort)) c.same_row.result
+    Taken ns (message_in ns (Some stream_abort)) c.same_row.result
 taken c =
     record {
-      it = a.StreamAbort c.word-xid.result c.word-sub_xid.result;
-      made = rw (c.word-sub_xid.ensures, c.word-xid.ensures);
+      it = a.StreamAbort c.fitting-xid.result c.fitting-sub_xid.result;
+      made = rw (c.fitting-sub_xid.ensures, c.fitting-xid.ensures);
       tested = rw (c.same_row.ensures, c.flatten_stream_abort.ensures);
     }
 

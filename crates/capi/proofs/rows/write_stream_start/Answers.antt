@@ -1,4 +1,4 @@
-use mathlib.Core.Option.{some}
+use Rattle.std.specs.Prelude.{Some}
 use Rattle.message.specs.declared.Message.TheVariants as a
 use Rattle.message.specs.Kinds.{stream_start}
 use Rattle.capi.specs.Flat.{message_in}
@@ -9,11 +9,11 @@ use Rattle.capi.proofs.rows.write_stream_start.Goals.{After-same_row}
 taken :
     (c : After-same_row)
     → let ns = c.args.row.now in
-    Taken ns (message_in ns (some stream_start)) c.same_row.result
+    Taken ns (message_in ns (Some stream_start)) c.same_row.result
 taken c =
     record {
-      it = a.StreamStart c.word-xid.result c.byte-first.result;
-      made = rw (c.byte-first.ensures, c.word-xid.ensures);
+      it = a.StreamStart c.fitting-xid.result c.fitting-first.result;
+      made = rw (c.fitting-first.ensures, c.fitting-xid.ensures);
       tested = rw (c.same_row.ensures, c.flatten_stream_start.ensures);
     }
 

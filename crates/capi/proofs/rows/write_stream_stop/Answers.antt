@@ -1,4 +1,4 @@
-use mathlib.Core.Option.{some}
+use Rattle.std.specs.Prelude.{Some}
 use mathlib.Core.Path.{refl}
 use Rattle.message.specs.declared.Message.TheVariants as a
 use Rattle.message.specs.Kinds.{stream_stop}
@@ -10,7 +10,7 @@ use Rattle.capi.proofs.rows.write_stream_stop.Goals.{After-same_row}
 taken :
     (c : After-same_row)
     → let ns = c.args.row.now in
-    Taken ns (message_in ns (some stream_stop)) c.same_row.result
+    Taken ns (message_in ns (Some stream_stop)) c.same_row.result
 taken c =
     record {
       it = a.StreamStop;

@@ -1,4 +1,4 @@
-use mathlib.Core.Option.{some}
+use Rattle.std.specs.Prelude.{Some}
 use Rattle.message.specs.declared.Message.TheVariants as a
 use Rattle.message.specs.Kinds.{truncate}
 use Rattle.capi.specs.Flat.{message_in}
@@ -9,16 +9,16 @@ use Rattle.capi.proofs.rows.write_truncate.Goals.{After-same_row}
 taken :
     (c : After-same_row)
     → let ns = c.args.row.now in
-    Taken ns (message_in ns (some truncate)) c.same_row.result
+    Taken ns (message_in ns (Some truncate)) c.same_row.result
 taken c =
     record {
       it = a.Truncate (record {
-        xid = c.word.result;
-        count = c.word-2.result;
-        options = c.byte.result;
-        relations = c.offset.result;
+        xid = c.fitting.result;
+        count = c.fitting-2.result;
+        options = c.fitting-3.result;
+        relations = c.fitting-4.result;
       });
-      made = rw (c.offset.ensures, c.byte.ensures, c.word-2.ensures, c.word.ensures);
+      made = rw (c.fitting-4.ensures, c.fitting-3.ensures, c.fitting-2.ensures, c.fitting.ensures);
       tested = rw (c.same_row.ensures, c.flatten_truncate.ensures);
     }
 

@@ -1,4 +1,4 @@
-use mathlib.Core.Option.{some}
+use Rattle.std.specs.Prelude.{Some}
 use Rattle.message.specs.declared.Message.TheVariants as a
 use Rattle.message.specs.Kinds.{type}
 use Rattle.capi.specs.Flat.{message_in}
@@ -9,16 +9,16 @@ use Rattle.capi.proofs.rows.write_type.Goals.{After-same_row}
 taken :
     (c : After-same_row)
     → let ns = c.args.row.now in
-    Taken ns (message_in ns (some type)) c.same_row.result
+    Taken ns (message_in ns (Some type)) c.same_row.result
 taken c =
     record {
       it = a.«Type» (record {
-        xid = c.word.result;
-        oid = c.word-2.result;
+        xid = c.fitting.result;
+        oid = c.fitting-2.result;
         namespace = c.span.result;
         name = c.span-2.result;
       });
-      made = rw (c.span-2.ensures, c.span.ensures, c.word-2.ensures, c.word.ensures);
+      made = rw (c.span-2.ensures, c.span.ensures, c.fitting-2.ensures, c.fitting.ensures);
       tested = rw (c.same_row.ensures, c.flatten_type.ensures);
     }
 

@@ -1,4 +1,4 @@
-use mathlib.Core.Option.{some}
+use Rattle.std.specs.Prelude.{Some}
 use Rattle.message.specs.declared.Message.TheVariants as a
 use Rattle.message.specs.Kinds.{update}
 use Rattle.capi.specs.Flat.{message_in}
@@ -9,16 +9,16 @@ use Rattle.capi.proofs.rows.write_update.Goals.{After-same_row}
 taken :
     (c : After-same_row)
     → let ns = c.args.row.now in
-    Taken ns (message_in ns (some update)) c.same_row.result
+    Taken ns (message_in ns (Some update)) c.same_row.result
 taken c =
     record {
       it = a.Update (record {
-        xid = c.word.result;
-        relation = c.word-2.result;
+        xid = c.fitting.result;
+        relation = c.fitting-2.result;
         old = c.old_tuple.result;
-        tuple = c.offset.result;
+        tuple = c.fitting-3.result;
       });
-      made = rw (c.offset.ensures, c.old_tuple.ensures, c.word-2.ensures, c.word.ensures);
+      made = rw (c.fitting-3.ensures, c.old_tuple.ensures, c.fitting-2.ensures, c.fitting.ensures);
       tested = rw (c.same_row.ensures, c.flatten_update.ensures);
     }
 

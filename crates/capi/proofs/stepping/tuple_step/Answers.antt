@@ -1,12 +1,21 @@
-use mathlib.Core.Path.{◌∙◌}
+use Rattle.std.proofs.Common.{◌≡◌, ◌∙◌, rules}
+use Rattle.std.specs.Prelude.{Ok, Some, None}
 use Rattle.capi.proofs.Steps.{tuple-shown}
 use Rattle.capi.proofs.stepping.tuple_step.Goals as goal
 
-pub returns-in-Value : goal.returns-in-Value
-returns-in-Value c = let s = tuple-shown _ _ _ _ c.tuple_step-column.ensures c.in-Value.is in record { out_after = s.0; position_after = s.1 }
+pub returns-in-Ok-Some : goal.returns-in-Ok-Some
+returns-in-Ok-Some c =
+    let e : c.item_at-step.result.item ≡ Ok (Some c.in-Ok-Some.column) = search rules in
+    let s = tuple-shown c.args.bytes.now c.args.position.now _ _ (rw c.position_in.ensures at c.item_at-step.ensures) e in
+    record { out_after = s.0; position_after = s.1 }
 
-pub returns-in-Over : goal.returns-in-Over
-returns-in-Over c = let s = tuple-shown _ _ _ _ c.tuple_step-column.ensures c.in-Over.is in record { out_after = c.over.ensures ∙ s.0; position_after = s.1 }
+pub returns-in-Ok-None : goal.returns-in-Ok-None
+returns-in-Ok-None c =
+    let e : c.item_at-step.result.item ≡ Ok None = search rules in
+    let s = tuple-shown c.args.bytes.now c.args.position.now _ _ (rw c.position_in.ensures at c.item_at-step.ensures) e in
+    record { out_after = c.over.ensures ∙ s.0; position_after = s.1 }
 
-pub returns-in-Refused : goal.returns-in-Refused
-returns-in-Refused c = let s = tuple-shown _ _ _ _ c.tuple_step-column.ensures c.in-Refused.is in record { out_after = c.refused.ensures ∙ s.0; position_after = s.1 }
+pub returns-in-Err : goal.returns-in-Err
+returns-in-Err c =
+    let s = tuple-shown c.args.bytes.now c.args.position.now _ _ (rw c.position_in.ensures at c.item_at-step.ensures) c.in-Err.is in
+    record { out_after = c.refused.ensures ∙ s.0; position_after = s.1 }

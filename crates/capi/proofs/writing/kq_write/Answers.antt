@@ -1,8 +1,8 @@
 use Rattle.writer.proofs.Told.{tells}
 use Rattle.capi.proofs.writing.kq_write.Goals as goal
 
-pub returns-in-Length : goal.returns-in-Length
-returns-in-Length c = tells _ _ _ _ _ c.write_row.ensures c.in-Length.is
+pub returns-in-Ok : goal.returns-in-Ok
+returns-in-Ok c = tells _ _ _ _ _ c.write_row.ensures c.in-Ok.is
 
-pub returns-in-Refused : goal.returns-in-Refused
-returns-in-Refused c = tells _ _ _ _ _ c.write_row.ensures c.in-Refused.is
+pub returns-in-Err : goal.returns-in-Err
+returns-in-Err c = tells _ _ _ _ _ c.write_row.ensures c.in-Err.is

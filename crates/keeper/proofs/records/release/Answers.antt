@@ -1,6 +1,7 @@
 use native.Mathlib.Omega.{arith}
 use mathlib.Core.Path.{refl, ap}
-use mathlib.Core.Bool.{true, not}
+use mathlib.Core.Bool.{not}
+use Rattle.std.specs.Prelude.{None}
 use Rattle.keeper.specs.Records.{chosen}
 use Rattle.keeper.proofs.Loops.{Turn, copy_start, pack_start, copy_done, pack_done, goes, copy-laid, pack_pass, copy_skip, pack_skip, turn_ahead}
 use Rattle.keeper.proofs.records.release.Goals as goal
@@ -16,7 +17,7 @@ loop-from-init c =
     let l = a.buffer.now in
     let end = c.end_of-end.result in
     let e = c.end_of-end.ensures in
-    (copy_start (chosen true a.xid a.xid) l end a.held e.0 (e.1 l refl) a.out.now, pack_start (λ r. not (chosen true a.xid a.xid r)) l end a.held e.0 (e.1 l refl))
+    (copy_start (chosen a.xid None) l end a.held e.0 (e.1 l refl) a.out.now, pack_start (λ r. not (chosen a.xid None r)) l end a.held e.0 (e.1 l refl))
 
 pub slice_bounds-header-count : goal.slice_bounds-header-count
 slice_bounds-header-count c = omega arith

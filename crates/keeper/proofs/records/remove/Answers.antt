@@ -14,7 +14,7 @@ pub loop-from-init : goal.loop-from-init
 loop-from-init c =
     let a = c.args in
     let e = c.end_of-end.ensures in
-    pack_start (λ r. not (chosen a.any a.xid a.sub r)) a.buffer.now c.end_of-end.result a.held e.0 (e.1 a.buffer.now refl)
+    pack_start (λ r. not (chosen a.xid a.under r)) a.buffer.now c.end_of-end.result a.held e.0 (e.1 a.buffer.now refl)
 
 pub slice_bounds-header-count : goal.slice_bounds-header-count
 slice_bounds-header-count c = omega arith

@@ -7,7 +7,7 @@ use Rattle.keeper.proofs.records.remove.Given as goal
 
 -- `keeper::records::remove` meets its contract. Assumes nothing.
 abbrev pub invariant-loop-from : goal.invariant-loop-from
-invariant-loop-from l = Packing (λ r. not (chosen l.any l.xid l.sub r)) l.initial.buffer l.end (pieces_in (λ r. not (chosen l.any l.xid l.sub r)) (take l.held l.initial.buffer)) l.buffer l.to l.from
+invariant-loop-from l = Packing (λ r. not (chosen l.xid l.under r)) l.initial.buffer l.end (pieces_in (λ r. not (chosen l.xid l.under r)) (take l.held l.initial.buffer)) l.buffer l.to l.from
 
 abbrev pub decreases-loop-from : goal.decreases-loop-from
 decreases-loop-from l = l.end - l.from

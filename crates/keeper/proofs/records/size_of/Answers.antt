@@ -1,6 +1,6 @@
 use native.Mathlib.Omega.{arith}
 use mathlib.Core.Path.{refl}
-use mathlib.Core.Bool.{true}
+use Rattle.std.specs.Prelude.{None}
 use Rattle.keeper.specs.Records.{chosen}
 use Rattle.keeper.proofs.Loops.{Turn, count-start, count_done, goes, count_pass, count_skip, turn}
 use Rattle.keeper.proofs.records.size_of.Goals as goal
@@ -14,7 +14,7 @@ pub loop-at-init : goal.loop-at-init
 loop-at-init c =
     let a = c.args in
     let e = c.end_of-end.ensures in
-    count-start (chosen true a.xid a.xid) a.buffer.now c.end_of-end.result a.held e.0 (e.1 a.buffer.now refl)
+    count-start (chosen a.xid None) a.buffer.now c.end_of-end.result a.held e.0 (e.1 a.buffer.now refl)
 
 pub overflow_add-stop : goal.overflow_add-stop
 overflow_add-stop c = omega (arith, goes (there (goal.at.overflow_add-stop c).After-header-r))

@@ -1,30 +1,24 @@
-use mathlib.Core.Path.{refl, ap, sym, ◌∙◌}
-use mathlib.Core.List.{[], ◌∷◌}
-use native.Mathlib.Omega.{arith}
-use Rattle.wire.specs.Fields.{position_of}
+use Rattle.std.proofs.Common.{◌≡◌, ◌-◌, ◌+◌, [], ◌∷◌, ap, sym, ◌∙◌, arith, rules}
+use Rattle.std.specs.Prelude.{None}
+use Rattle.wire.specs.ValueEnd.{end_of}
 use Rattle.message.specs.Layout.{column}
 use Rattle.reader.proofs.Groups.{turn, done}
 use Rattle.reader.proofs.Fast.{columns-none}
 use Rattle.reader.proofs.Offset.{there}
 use Rattle.reader.proofs.tuples.columns_fast.Goals as goal
 
-pub loop-left-init : goal.loop-left-init
-loop-left-init c = (omega arith, refl)
+pub loop-k-init : goal.loop-k-init
+loop-k-init c = let z : c.args.n - 0 ≡ c.args.n = omega arith in rw z
 
-pub returns-then-end-eq0 : goal.returns-then-end-eq0
-returns-then-end-eq0 c =
-    columns-none _ _ _ c.loop-left-test.true c.loop-left.invariant.1 (sym c.if-end-eq0.true ∙ c.column_fast-end.ensures)
+pub returns-in_err-at : goal.returns-in_err-at
+returns-in_err-at c =
+    let given : c.from_residual.result ≡ None = search rules in
+    given ∙ columns-none _ _ _ (omega arith) c.loop-k.invariant (sym c.in_err-at.was ∙ c.column_fast.ensures)
 
-pub overflow_sub-left : goal.overflow_sub-left
-overflow_sub-left c = omega arith
-
-pub loop-left-smaller : goal.loop-left-smaller
-loop-left-smaller c = omega arith
-
-pub loop-left-preserved : goal.loop-left-preserved
-loop-left-preserved c =
-    let next = sym (there _ c.column_fast-end.ensures c.if-end-eq0.false) in
-    (omega arith, turn (column ∷ []) _ _ _ c.loop-left-test.true next c.loop-left.invariant.1)
+pub loop-k-preserved : goal.loop-k-preserved
+loop-k-preserved c =
+    let s : c.args.n - (c.loop-k.k + 1) ≡ c.args.n - c.loop-k.k - 1 = omega arith in
+    rw s (turn (column ∷ []) _ _ _ (omega arith) (sym (there _ (sym c.in_ok-at.was ∙ c.column_fast.ensures))) c.loop-k.invariant)
 
 pub returns : goal.returns
-returns c = ap position_of (done (column ∷ []) _ _ c.loop-left-test.false c.loop-left.invariant.1)
+returns c = ap end_of (done (column ∷ []) _ _ (omega arith) c.loop-k.invariant)

@@ -1,25 +1,27 @@
-use mathlib.Core.Path.{refl, ap}
-use mathlib.Core.Bool.{not}
-use native.Mathlib.Omega.{arith}
+use Rattle.std.proofs.Common.{not, refl, ap, ◌∙◌, arith}
 use Rattle.catalog.specs.Tables.{table}
 use Rattle.session.specs.State.{visible_in}
-use Rattle.session.proofs.Oids.{seen_done, seen_turn, seen_miss}
+use Rattle.session.proofs.Oids.{seen_start, seen_done, seen_turn, seen_miss}
+use Rattle.session.proofs.Visible.{found_announced}
 use Rattle.session.proofs.judging.all_visible.Goals as goal
 
-pub loop-left-init : goal.loop-left-init
-loop-left-init c = (omega arith, refl)
+pub loop-i-init : goal.loop-i-init
+loop-i-init c = let a = c.args in (refl, seen_start (visible_in a.place (table a.rows a.announcements.now)) _ _ a.count refl)
 
-pub returns-then-not-is_found : goal.returns-then-not-is_found
-returns-then-not-is_found c = let a = c.args in seen_miss (visible_in a.place (table a.rows a.keys.now a.tags.now a.identities.now a.columns.now)) _ _ _ c.id-value.ensures _ c.visible.ensures _ c.is_found.ensures _ c.loop-left-test.true (ap not c.if-not-is_found.true) c.loop-left.invariant.1
+pub returns-then-is_none : goal.returns-then-is_none
+returns-then-is_none c = let a = c.args in
+    let o = rw c.loop-i.invariant.0 at c.next_oid-oid.ensures in
+    seen_miss (visible_in a.place (table a.rows a.announcements.now)) _ _ _ refl _ (rw o.0 at c.visible.ensures) _ (found_announced c.visible.result) a.count c.loop-i._i (omega arith)
+    (c.is_none.ensures ∙ ap not c.if-is_none.true) c.loop-i.invariant.1
 
-pub overflow_sub-left : goal.overflow_sub-left
-overflow_sub-left c = omega arith
-
-pub loop-left-smaller : goal.loop-left-smaller
-loop-left-smaller c = omega arith
-
-pub loop-left-preserved : goal.loop-left-preserved
-loop-left-preserved c = let a = c.args in (omega arith, seen_turn (visible_in a.place (table a.rows a.keys.now a.tags.now a.identities.now a.columns.now)) _ _ _ c.id-value.ensures _ c.visible.ensures _ c.is_found.ensures _ c.loop-left-test.true (ap not c.if-not-is_found.false) c.loop-left.invariant.1)
+pub loop-i-preserved : goal.loop-i-preserved
+loop-i-preserved c = let a = c.args in
+    let o = rw c.loop-i.invariant.0 at c.next_oid-oid.ensures in
+    rw o.1 (
+      refl,
+      seen_turn (visible_in a.place (table a.rows a.announcements.now)) _ _ _ refl _ (rw o.0 at c.visible.ensures) _ (found_announced c.visible.result) a.count c.loop-i._i (omega arith)
+          (c.is_none.ensures ∙ ap not c.if-is_none.false) c.loop-i.invariant.1,
+    )
 
 pub returns : goal.returns
-returns c = let a = c.args in seen_done (visible_in a.place (table a.rows a.keys.now a.tags.now a.identities.now a.columns.now)) _ _ _ c.loop-left-test.false c.loop-left.invariant.1
+returns c = let a = c.args in seen_done (visible_in a.place (table a.rows a.announcements.now)) _ _ a.count c.loop-i._i (omega arith) c.loop-i.invariant.1

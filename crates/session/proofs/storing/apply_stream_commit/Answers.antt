@@ -2,4 +2,8 @@ use Rattle.session.proofs.Stores.{headed, tabled}
 use Rattle.session.proofs.storing.apply_stream_commit.Goals as goal
 
 pub returns : goal.returns
-returns c = let a = c.args in let h = c.head_at.ensures in (headed a.head _ c.place_of.result c.flag_of.result c.release-rows.result h c.place_of.ensures c.flag_of.ensures, c.close.ensures, tabled a.head _ c.place_of.result c.flag_of.result c.release-rows.result h _ _ _ _ _ c.release-rows.ensures)
+returns c = let h = c.args.head in let p = c.place_of in let f = c.flag_of in let n = c.release-rows in let e = c.head_at.ensures in record {
+  head = headed h _ p.result f.result n.result e p.ensures f.ensures;
+  streams = c.close.ensures;
+  table = tabled h _ p.result f.result n.result e _ _ n.ensures;
+}

@@ -1,24 +1,30 @@
-use mathlib.Core.Path.{sym, ap, ◌∙◌}
-use native.Mathlib.Omega.{arith}
-use Rattle.wire.specs.declared.Field64.{Field64}
+use Rattle.std.proofs.Common.{◌≡◌, sym, ◌∙◌, ap, refl, arith, rules}
+use Rattle.std.specs.Prelude.{Ok, Err}
+use Rattle.wire.specs.Cursors.{Taken}
+use Rattle.wire.specs.Fields.{number_field}
 use Rattle.wire.proofs.Fields.{value_le}
+use Rattle.wire.proofs.Given.{stopped, went_on}
+use Rattle.values.specs.Types.{row_of}
 use Rattle.values.proofs.Typed.{value_wide, value_big, value-good}
 use Rattle.values.proofs.reading.typed_value.Goals as goal
 
-pub number_of-value-requires : goal.number_of-value-requires
-number_of-value-requires c = omega (arith, c.requires)
+pub returns-then-not-has_width : goal.returns-then-not-has_width
+returns-then-not-has_width c =
+    value_wide c.args.message.now c.args.kind c.args.start c.args.count (sym c.has_width.ensures ∙ c.if-not-has_width.true)
 
-pub valued-value-requires : goal.valued-value-requires
-valued-value-requires c = rw (ap (λ (f : Field64). f.value) c.number_of-value.ensures) (value_le _ 0 _ 17 _ _)
+pub returns-in_err-number : goal.returns-in_err-number
+returns-in_err-number c =
+    let given : c.from_residual.result ≡ Err c.in_err-number.field-0.0 = search rules in
+    let e = stopped (number_field (row_of c.args.kind).width 0 (row_of c.args.kind).most 17 c.args.message.now (Ok c.args.start)) (sym c.number_of.ensures ∙ c.in_err-number.was) in
+    given ∙ value_big c.args.message.now c.args.kind c.args.start c.args.count c.requires (sym c.has_width.ensures ∙ c.if-not-has_width.false) refl e
 
-pub returns-in-Refused : goal.returns-in-Refused
-returns-in-Refused c =
-    value_big c.args.message.now c.args.kind c.args.start c.args.count c.requires (sym c.has_width.ensures ∙ c.if-has_width.true) c.number_of-value.ensures _ _ c.in-Refused.is
+pub valued-requires : goal.valued-requires
+valued-requires c =
+    let f = number_field (row_of c.args.kind).width 0 (row_of c.args.kind).most 17 c.args.message.now (Ok c.args.start) in
+    rw (went_on f (sym c.number_of.ensures ∙ c.in_ok-number.was)).2 (value_le _ 0 _ 17 _ _)
 
-pub returns-in-At : goal.returns-in-At
-returns-in-At c =
-    value-good c.args.message.now c.args.kind c.args.start c.args.count c.requires (sym c.has_width.ensures ∙ c.if-has_width.true) c.number_of-value.ensures _ c.in-At.is c.valued-value.ensures
-
-pub returns-else-has_width : goal.returns-else-has_width
-returns-else-has_width c =
-    value_wide c.args.message.now c.args.kind c.args.start c.args.count (sym c.has_width.ensures ∙ c.if-has_width.false)
+pub returns : goal.returns
+returns c =
+    let f = number_field (row_of c.args.kind).width 0 (row_of c.args.kind).most 17 c.args.message.now (Ok c.args.start) in
+    let w = went_on f (sym c.number_of.ensures ∙ c.in_ok-number.was) in
+    value-good c.args.message.now c.args.kind c.args.start c.args.count c.requires (sym c.has_width.ensures ∙ c.if-not-has_width.false) refl _ w.1 (rw (← w.2) c.valued.ensures)

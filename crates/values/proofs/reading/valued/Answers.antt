@@ -20,16 +20,16 @@ returns-in-Bool c = rw c.in-Bool.is
 pub returns-in-Int2 : goal.returns-in-Int2
 returns-in-Int2 c =
     let h = within _ k.Int2 _ c.in-Int2.is c.requires in
-    rw (c.signed16.ensures, c.in-Int2.is, kept w16 c.args.number (omega (arith, h)))
+    rw (c.cast_signed.ensures, c.in-Int2.is, kept w16 c.args.number (omega (arith, h)))
 
 pub returns-in-Int4 : goal.returns-in-Int4
 returns-in-Int4 c =
     let h = within _ k.Int4 _ c.in-Int4.is c.requires in
-    rw (c.signed32.ensures, c.in-Int4.is, kept w32 c.args.number (omega (arith, h)))
+    rw (c.cast_signed-in-Int4.ensures, c.in-Int4.is, kept w32 c.args.number (omega (arith, h)))
 
 pub returns-in-Int8 : goal.returns-in-Int8
 returns-in-Int8 c =
-    rw (c.signed64.ensures, c.in-Int8.is, kept w64 c.args.number c.ranges.number.fits)
+    rw (c.cast_signed-in-Int8.ensures, c.in-Int8.is, kept w64 c.args.number c.ranges.number.fits)
 
 pub returns-in-Float4 : goal.returns-in-Float4
 returns-in-Float4 c = rw (c.float4_of.ensures, c.in-Float4.is)
@@ -39,7 +39,7 @@ returns-in-Float8 c = rw (c.float8_of.ensures, c.in-Float8.is)
 
 pub returns-in-TimestampTz : goal.returns-in-TimestampTz
 returns-in-TimestampTz c =
-    rw (c.signed64-in-TimestampTz.ensures, c.in-TimestampTz.is, kept w64 c.args.number c.ranges.number.fits)
+    rw (c.cast_signed-in-TimestampTz.ensures, c.in-TimestampTz.is, kept w64 c.args.number c.ranges.number.fits)
 
 pub returns-in-Raw : goal.returns-in-Raw
 returns-in-Raw c = rw c.in-Raw.is

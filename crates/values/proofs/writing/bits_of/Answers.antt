@@ -12,19 +12,19 @@ pub returns-in-Int2 : goal.returns-in-Int2
 returns-in-Int2 c =
     let z = c.in-Int2.v in
     let s : SFits w16 z = search rules in
-    rw (c.number-in-Int2.ensures, c.bits16.ensures, c.in-Int2.is, to_z-of_z w16 z s)
+    rw (c.number-in-Int2.ensures, c.cast_unsigned.ensures, c.in-Int2.is, to_z-of_z w16 z s)
 
 pub returns-in-Int4 : goal.returns-in-Int4
 returns-in-Int4 c =
     let z = c.in-Int4.v in
     let s : SFits w32 z = search rules in
-    rw (c.number-in-Int4.ensures, c.bits32.ensures, c.in-Int4.is, to_z-of_z w32 z s)
+    rw (c.number-in-Int4.ensures, c.cast_unsigned-in-Int4.ensures, c.in-Int4.is, to_z-of_z w32 z s)
 
 pub returns-in-Int8 : goal.returns-in-Int8
 returns-in-Int8 c =
     let z = c.in-Int8.v in
     let s : SFits w64 z = search rules in
-    rw (c.number-in-Int8.ensures, c.bits64.ensures, c.in-Int8.is, to_z-of_z w64 z s)
+    rw (c.number-in-Int8.ensures, c.cast_unsigned-in-Int8.ensures, c.in-Int8.is, to_z-of_z w64 z s)
 
 pub returns-in-Float4 : goal.returns-in-Float4
 returns-in-Float4 c = rw (c.number-in-Float4.ensures, c.float4_bits.ensures, c.in-Float4.is)
@@ -42,7 +42,7 @@ pub returns-in-TimestampTz : goal.returns-in-TimestampTz
 returns-in-TimestampTz c =
     let z = c.in-TimestampTz.v in
     let s : SFits w64 z = search rules in
-    rw (c.number-in-TimestampTz.ensures, c.bits64-in-TimestampTz.ensures, c.in-TimestampTz.is, to_z-of_z w64 z s)
+    rw (c.number-in-TimestampTz.ensures, c.cast_unsigned-in-TimestampTz.ensures, c.in-TimestampTz.is, to_z-of_z w64 z s)
 
 pub returns-in-Raw : goal.returns-in-Raw
 returns-in-Raw c = rw c.in-Raw.is

@@ -3,24 +3,17 @@ use Rattle.wire.proofs.Fields.{until_here, until_next, until_end}
 use Rattle.wire.proofs.zeros.zero_from.Goals as goal
 
 pub loop-i-init : goal.loop-i-init
-loop-i-init c = sym c.skip_eights-i.ensures
-
-pub bounds-s-i : goal.bounds-s-i
-bounds-s-i c = omega arith
+loop-i-init c = sym c.skip_eights-start.ensures
 
 pub returns-then-s-i-eq0 : goal.returns-then-s-i-eq0
 returns-then-s-i-eq0 c =
     omega (arith, until_here c.args.s.now c.loop-i.i (omega arith) c.if-s-i-eq0.true)
-
-pub overflow_add-i : goal.overflow_add-i
-overflow_add-i c = omega arith
-
-pub loop-i-smaller : goal.loop-i-smaller
-loop-i-smaller c = omega arith
 
 pub loop-i-preserved : goal.loop-i-preserved
 loop-i-preserved c =
     omega (arith, until_next c.args.s.now c.loop-i.i (omega arith) c.if-s-i-eq0.false)
 
 pub returns : goal.returns
-returns c = omega (arith, until_end c.args.s.now c.loop-i.i (omega arith))
+returns c =
+    let s = c.args.s.now in
+    grind (arith, until_end s c.loop-i.i, until_end s c.skip_eights-start.result)

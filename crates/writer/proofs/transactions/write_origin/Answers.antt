@@ -1,36 +1,17 @@
 use mathlib.Core.Path.{◌≡◌}
-use Rattle.message.specs.Kinds.{numbered}
-use Rattle.message.specs.Pieces.{message_end}
+use borrow.Author.Rules.{rules}
+use Rattle.std.specs.Prelude.{Err}
 use Rattle.message.specs.declared.Message.TheVariants as a
-use Rattle.writer.proofs.Whole.{refuse, has_room, accept}
+use Rattle.writer.proofs.Whole.{refused_whole, has_room, accepted}
 use Rattle.writer.proofs.transactions.write_origin.Goals as goal
-use Rattle.writer.proofs.transactions.write_origin.Goals.{After-fit-next}
 
--- the judgement of the fields
-judged : (c : After-fit-next) → (c.advance-next-2.result ≡ message_end c.args.version c.args.in_block (a.Origin c.args.m) c.args.source.now)
-unfolding numbered
-judged c =
-    rw (
-      c.advance-next-2.ensures,
-      c.advance-next.ensures,
-      c.judge_text.ensures,
-      c.judge_long.ensures,
-      c.open-next.ensures,
-    )
+pub returns-in_err-n : goal.returns-in_err-n
+returns-in_err-n c =
+    let given : c.from_residual.result ≡ Err c.in_err-n.field-0.0 = search rules in
+    rw given (refused_whole c.args.version c.args.in_block (a.Origin c.args.m) c.args.source.now c.args.out.now c.judge_origin.ensures c.fit.ensures c.in_err-n.was)
 
 pub store_origin-requires : goal.store_origin-requires
-store_origin-requires c =
-    has_room c.args.version c.args.in_block (a.Origin c.args.m) c.args.source.now c.args.out.now
-    (judged (goal.at.store_origin-requires c).After-fit-next) c.fit-next.ensures c.in-At.is
+store_origin-requires c = has_room c.args.version c.args.in_block (a.Origin c.args.m) c.args.source.now c.args.out.now c.judge_origin.ensures c.fit.ensures c.in_ok-n.was
 
-pub returns-in-Refused : goal.returns-in-Refused
-returns-in-Refused c =
-    refuse c.args.version c.args.in_block (a.Origin c.args.m) c.args.source.now c.args.out.now
-    (judged (goal.at.returns-in-Refused c).After-fit-next) c.fit-next.ensures
-    c.in-Refused.is c.refused.ensures
-
-pub returns-in-At : goal.returns-in-At
-returns-in-At c =
-    accept c.args.version c.args.in_block (a.Origin c.args.m) c.args.source.now c.args.out.now
-    (judged (goal.at.returns-in-At c).After-fit-next) c.fit-next.ensures
-    c.in-At.is c.store_origin.ensures
+pub returns : goal.returns
+returns c = accepted c.args.version c.args.in_block (a.Origin c.args.m) c.args.source.now c.args.out.now c.judge_origin.ensures c.fit.ensures c.in_ok-n.was c.store_origin.ensures

@@ -1,38 +1,18 @@
-use Prim.Native.Nat.{ℕ}
-use mathlib.Core.List.{List, []}
+use mathlib.Core.List.{[]}
 use mathlib.Core.Path.{◌≡◌}
-use Rattle.message.specs.Kinds.{numbered}
-use Rattle.message.specs.Pieces.{message_end}
+use borrow.Author.Rules.{rules}
+use Rattle.std.specs.Prelude.{Err}
 use Rattle.message.specs.declared.Message.TheVariants as a
-use Rattle.writer.proofs.Whole.{refuse, has_room, accept}
+use Rattle.writer.proofs.Whole.{refused_whole, has_room, accepted}
 use Rattle.writer.proofs.transactions.write_stream_start.Goals as goal
-use Rattle.writer.proofs.transactions.write_stream_start.Goals.{After-fit-next}
 
--- the judgement of the fields
-judged : (c : After-fit-next) (src : List ℕ) → (c.advance-next-2.result ≡ message_end c.args.version c.args.in_block (a.StreamStart c.args.xid c.args.first) src)
-unfolding numbered
-judged c src =
-    rw (
-      c.advance-next-2.ensures,
-      c.advance-next.ensures,
-      c.judge_byte.ensures,
-      c.judge_id.ensures,
-      c.open-next.ensures,
-    )
+pub returns-in_err-n : goal.returns-in_err-n
+returns-in_err-n c src =
+    let given : c.from_residual.result ≡ Err c.in_err-n.field-0.0 = search rules in
+    rw given (refused_whole c.args.version c.args.in_block (a.StreamStart c.args.xid c.args.first) src c.args.out.now (c.judge_stream_start.ensures src) c.fit.ensures c.in_err-n.was)
 
 pub store_stream_start-requires : goal.store_stream_start-requires
-store_stream_start-requires c =
-    has_room c.args.version c.args.in_block (a.StreamStart c.args.xid c.args.first) [] c.args.out.now
-    (judged (goal.at.store_stream_start-requires c).After-fit-next []) c.fit-next.ensures c.in-At.is
+store_stream_start-requires c = has_room c.args.version c.args.in_block (a.StreamStart c.args.xid c.args.first) [] c.args.out.now (c.judge_stream_start.ensures []) c.fit.ensures c.in_ok-n.was
 
-pub returns-in-Refused : goal.returns-in-Refused
-returns-in-Refused c src =
-    refuse c.args.version c.args.in_block (a.StreamStart c.args.xid c.args.first) src c.args.out.now
-    (judged (goal.at.returns-in-Refused c).After-fit-next src) c.fit-next.ensures
-    c.in-Refused.is c.refused.ensures
-
-pub returns-in-At : goal.returns-in-At
-returns-in-At c src =
-    accept c.args.version c.args.in_block (a.StreamStart c.args.xid c.args.first) src c.args.out.now
-    (judged (goal.at.returns-in-At c).After-fit-next src) c.fit-next.ensures
-    c.in-At.is c.store_stream_start.ensures
+pub returns : goal.returns
+returns c src = accepted c.args.version c.args.in_block (a.StreamStart c.args.xid c.args.first) src c.args.out.now (c.judge_stream_start.ensures src) c.fit.ensures c.in_ok-n.was c.store_stream_start.ensures

@@ -1,29 +1,23 @@
-use Prim.Native.Nat.{ℕ}
-use mathlib.Core.List.{List, []}
+use mathlib.Core.List.{[]}
 use mathlib.Core.Path.{◌≡◌}
-use Rattle.message.specs.Kinds.{numbered}
-use Rattle.message.specs.Pieces.{message_pieces, message_end}
+use borrow.Author.Rules.{rules}
+use Rattle.std.specs.Prelude.{Err}
+use Rattle.message.specs.Pieces.{message_pieces}
 use Rattle.message.specs.declared.Message.TheVariants as a
-use Rattle.writer.proofs.Whole.{refuse, has_room, accept_as}
-use Rattle.writer.proofs.Stores.{stored_all}
+use Rattle.writer.proofs.Stores.{stored_by}
+use Rattle.writer.proofs.Whole.{refused_whole, has_room, accept_as}
 use Rattle.writer.proofs.transactions.write_stream_stop.Goals as goal
-use Rattle.writer.proofs.transactions.write_stream_stop.Goals.{After-fit-next}
 
--- the judgement of the version and the kind
-judged : (c : After-fit-next) (src : List ℕ) → (c.open-next.result ≡ message_end c.args.version c.args.in_block a.StreamStop src)
-unfolding numbered
-judged c src = c.open-next.ensures
+pub returns-in_err-fit : goal.returns-in_err-fit
+returns-in_err-fit c src =
+    let given : c.from_residual.result ≡ Err c.in_err-fit.field-0.0 = search rules in
+    rw given (refused_whole c.args.version c.args.in_block a.StreamStop src c.args.out.now c.open.ensures c.fit.ensures c.in_err-fit.was)
 
-pub put_byte-end-requires : goal.put_byte-end-requires
-put_byte-end-requires c =
-    has_room c.args.version c.args.in_block a.StreamStop [] c.args.out.now (judged (goal.at.put_byte-end-requires c).After-fit-next []) c.fit-next.ensures c.in-At.is
+pub byte-requires : goal.byte-requires
+byte-requires c = has_room c.args.version c.args.in_block a.StreamStop [] c.args.out.now c.open.ensures c.fit.ensures c.in_ok-fit.was
 
-pub returns-in-Refused : goal.returns-in-Refused
-returns-in-Refused c src =
-    refuse c.args.version c.args.in_block a.StreamStop src c.args.out.now (judged (goal.at.returns-in-Refused c).After-fit-next src) c.fit-next.ensures c.in-Refused.is c.refused.ensures
-
-pub returns-in-At : goal.returns-in-At
-returns-in-At c src =
-    let e = c.in-At.is in
-    accept_as c.args.version c.args.in_block a.StreamStop src c.args.out.now (judged (goal.at.returns-in-At c).After-fit-next src) c.fit-next.ensures e c.put_byte-end.ensures.1
-    (stored_all (message_pieces c.args.in_block a.StreamStop src) c.args.out.now (has_room c.args.version c.args.in_block a.StreamStop src c.args.out.now (judged (goal.at.returns-in-At c).After-fit-next src) c.fit-next.ensures e) c.put_byte-end.result c.put_byte-end.ensures.0)
+pub returns : goal.returns
+returns c src =
+    let room = has_room c.args.version c.args.in_block a.StreamStop src c.args.out.now c.open.ensures c.fit.ensures c.in_ok-fit.was in
+    accept_as c.args.version c.args.in_block a.StreamStop src c.args.out.now c.open.ensures c.fit.ensures c.in_ok-fit.was c.byte.ensures.laid.at
+    (stored_by (message_pieces c.args.in_block a.StreamStop src) c.args.out.now c.byte.new.self room (search rules) c.byte.ensures.laid.laid)

@@ -1,0 +1,59 @@
+// What is seen of a message.
+
+ghost use Rattle.std.specs.Prelude.{◌≤◌};
+
+const ROOM: usize = 16;
+
+// Up to 16 numbers, in an array with its count, since the library uses no heap.
+#[derive(Clone, Copy, PartialEq, Eq)]
+pub struct Values {
+    pub count: usize,
+    pub numbers: [u64; 16],
+    ghost room: { count ≤ 16 },
+}
+
+// The message's length, and its values: the letter, then the message's numbers in the order of its layout. A text or
+// content is its start and length, a tuple its start and count. Columns of a Relation and OIDs are a start. `K` and `O`
+// stand before their tuple, and an Update with no old tuple has three zeros there. An xid that is not there is 0, and a
+// time is its 64 bits.
+#[derive(Clone, Copy, PartialEq, Eq)]
+pub struct Seen {
+    pub length: usize,
+    pub values: Values,
+}
+
+impl Values {
+    pub fn new() -> Self {
+        Values {
+            count: 0,
+            numbers: [0; 16],
+        }
+    }
+
+    // As many of these as there is room for.
+    pub fn of(numbers: &[u64]) -> Self {
+        let mut values = Self::new();
+        for number in numbers {
+            values.push(*number);
+        }
+        values
+    }
+
+    // A value more, while there is room.
+    pub fn push(&mut self, value: u64) {
+        if self.count < ROOM {
+            self.numbers[self.count] = value;
+            self.count += 1;
+        }
+    }
+
+    pub fn as_slice(&self) -> &[u64] {
+        &self.numbers[..self.count]
+    }
+
+    // The value that `back` others stand behind.
+    pub fn earlier(&self, back: usize) -> u64 {
+        let values = self.as_slice();
+        values.iter().rev().nth(back).copied().unwrap_or(0)
+    }
+}

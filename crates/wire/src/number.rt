@@ -1,0 +1,150 @@
+// The numbers that a field may hold, over their type.
+ghost use Rattle.std.specs.Prelude.{◌≡◌, ℕ, ◌≤◌, ◌^◌, cond, ltb};
+ghost use Rattle.std.proofs.Common.{rules};
+
+use std::convert::TryFrom;
+
+// An unsigned number of one, two, four or eight bytes.
+pub trait Number: Copy {
+    ghost WIDTH: { ℕ };
+
+    ghost value: { Self → ℕ };
+
+    ghost of: { ℕ → Self };
+
+    // How many bytes it has.
+    const WIDTH: usize;
+
+    fn wide(self) -> u64
+        ensures { result ≡ value self };
+
+    // A number that is no more than one of this type, in it.
+    fn narrow(n: u64, most: Self) -> Self
+        ensures { n ≤ value most → result ≡ of n };
+
+    // A number that fits, else 0.
+    fn fitting(n: u64) -> Self
+        ensures { result ≡ of (cond (ltb n (256 ^ WIDTH)) n 0) };
+
+    ghost few: { WIDTH ≤ 8 };
+}
+
+impl Number for u8 {
+    ghost WIDTH = { 1 };
+
+    ghost value = { λ n. n };
+
+    ghost of = { λ n. n };
+
+    const WIDTH: usize = 1;
+
+    fn wide(self) -> u64 {
+        u64::from(self)
+    }
+
+    fn narrow(n: u64, most: u8) -> u8 {
+        u8::try_from(n).unwrap_or(most)
+    }
+
+    fn fitting(n: u64) -> u8 {
+        u8::try_from(n).unwrap_or(0)
+    }
+
+    ghost few = { Prim.search rules };
+}
+
+impl Number for u16 {
+    ghost WIDTH = { 2 };
+
+    ghost value = { λ n. n };
+
+    ghost of = { λ n. n };
+
+    const WIDTH: usize = 2;
+
+    fn wide(self) -> u64 {
+        u64::from(self)
+    }
+
+    fn narrow(n: u64, most: u16) -> u16 {
+        u16::try_from(n).unwrap_or(most)
+    }
+
+    fn fitting(n: u64) -> u16 {
+        u16::try_from(n).unwrap_or(0)
+    }
+
+    ghost few = { Prim.search rules };
+}
+
+impl Number for u32 {
+    ghost WIDTH = { 4 };
+
+    ghost value = { λ n. n };
+
+    ghost of = { λ n. n };
+
+    const WIDTH: usize = 4;
+
+    fn wide(self) -> u64 {
+        u64::from(self)
+    }
+
+    fn narrow(n: u64, most: u32) -> u32 {
+        u32::try_from(n).unwrap_or(most)
+    }
+
+    fn fitting(n: u64) -> u32 {
+        u32::try_from(n).unwrap_or(0)
+    }
+
+    ghost few = { Prim.search rules };
+}
+
+impl Number for u64 {
+    ghost WIDTH = { 8 };
+
+    ghost value = { λ n. n };
+
+    ghost of = { λ n. n };
+
+    const WIDTH: usize = 8;
+
+    fn wide(self) -> u64 {
+        self
+    }
+
+    fn narrow(n: u64, _most: u64) -> u64 {
+        n
+    }
+
+    fn fitting(n: u64) -> u64 {
+        n
+    }
+
+    ghost few = { Prim.search rules };
+}
+
+impl Number for usize {
+    ghost WIDTH = { 8 };
+
+    ghost value = { λ n. n };
+
+    ghost of = { λ n. n };
+
+    const WIDTH: usize = 8;
+
+    fn wide(self) -> u64 {
+        self as u64
+    }
+
+    fn narrow(n: u64, _most: usize) -> usize {
+        n as usize
+    }
+
+    fn fitting(n: u64) -> usize {
+        n as usize
+    }
+
+    ghost few = { Prim.search rules };
+}

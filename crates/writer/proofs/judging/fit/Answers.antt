@@ -1,8 +1,0 @@
-use borrow.Author.Tests.{le-leb, lt-leb}
-use Rattle.writer.proofs.judging.fit.Goals as goal
-
-pub returns-then-n-room : goal.returns-then-n-room
-returns-then-n-room c = rw (c.in-At.is, le-leb _ _ c.if-n-room.true)
-
-pub returns-else-n-room : goal.returns-else-n-room
-returns-else-n-room c = rw (c.in-At.is, lt-leb _ _ c.if-n-room.false)
