@@ -1,4 +1,4 @@
-// The flat form of a message: a row of 16 numbers. Each kind has a function of its own, since kinds differ in their fields, and so that
+// The flat form of a message: a row of 16 numbers, as C lends it. Each kind has a function of its own, since kinds differ in their fields, and so that
 // no message passes through the enum of all kinds (speed).
 ghost use Rattle.std.specs.Prelude.{◌≡◌};
 ghost use Rattle.message.specs.declared.Message.TheVariants as a;

@@ -13,7 +13,7 @@ use columns::Position;
 use values::{Bits, Value, ValueKind};
 use wire::Refusal;
 
-// Nothing is left: no refusal.
+// Nothing is left: no refusal. A number: the C interface.
 const OVER: u32 = 255;
 
 // A value's flat form.

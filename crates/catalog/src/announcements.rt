@@ -17,6 +17,7 @@ pub struct Announcement {
 }
 
 // The rows: a key each, and the announcement. They stay four arrays: as an array of rows they are padded, and past the size of C's record.
+// How many are in use is a word of C's record, in its head, and goes beside them.
 #[repr(C)]
 #[derive(Clone, Copy)]
 pub struct Announcements {

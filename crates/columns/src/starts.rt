@@ -1,4 +1,4 @@
-// What of a message can be stepped through, and where it starts.
+// What of a message can be stepped through, and where it starts. Version and block stay apart, as in `reader`.
 ghost use Rattle.std.specs.Prelude.{◌≡◌};
 ghost use Rattle.message.specs.Messages.{read_message};
 ghost use Rattle.columns.specs.Starts.{old_offset, absent, with_tuples, sections_of, tuple_position, tuple_start, relation_start, oid_start};

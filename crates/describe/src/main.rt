@@ -97,6 +97,7 @@ fn tell_all(
 ) -> io::Result<()> {
     let mut records = Records::new(rt.alloc(), input)?;
     let mut teller = Teller::new(rt.alloc(), version);
+    // No function runs forever, and an input may have no end: hence a bound.
     for _ in 0..u64::MAX {
         let damage = match records.next_record() {
             Ok(Some(record)) => {

@@ -121,7 +121,7 @@ fn step_act(
 }
 
 // Gives a session, passed by value, one message, with the keeper's buffer, how many of its bytes are held, and an output for what is
-// released.
+// released. Buffer and number stay apart: the caller lends both, and C keeps both.
 pub fn step(
     session: Session,
     bytes: &[u8],

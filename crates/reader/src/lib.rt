@@ -1,5 +1,6 @@
 #![tactic(auto)]
-// Any bytes to a typed message, or one refusal.
+// Any bytes to a typed message, or one refusal. Each kind has a function of its own, since kinds differ in their fields and not only in a
+// type; what fields have in common is said once, by `Reader`.
 ghost use Rattle.std.specs.Prelude.{◌≡◌};
 ghost use Rattle.wire.specs.Cursors.{refuse};
 ghost use Rattle.message.specs.Messages.{read_kind, read_message};

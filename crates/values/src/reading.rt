@@ -9,6 +9,8 @@ use crate::{Value, ValueKind, kinds};
 use columns::{Position, Step};
 use wire::{Reader, Refusal};
 
+// Two functions for the two floats: each has its own constant, std type and pair of values, and nothing else.
+
 // The value of a pattern of 32 bits. Without the sign a NaN's pattern is above the infinity's.
 fn float4_of(n: u32) -> Value
     ensures { result ≡ float4_of n }

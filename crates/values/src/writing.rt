@@ -10,6 +10,8 @@ ghost use Rattle.values.specs.Writes.{written, write_value};
 use crate::{Bits, Value, ValueKind};
 use wire::Refusal;
 
+// Two functions for the two floats, as in `reading`.
+
 // The pattern of a float. A NaN that was made up, which has no pattern of its own, gets the usual one.
 fn float4_bits(x: f32) -> u32
     ensures { result ≡ to_bits binary32 x }

@@ -1,7 +1,7 @@
 #![tactic(auto)]
 // A typed message, with its parts in a source, into an output. The version and the kind are judged, the fields from left to right, then
 // the room, and then the message is stored. Each kind has functions of its own, since kinds differ in their fields and not only in a type;
-// what fields have in common is said once, by `Reach` and `Pen`.
+// what fields have in common is said once, by `Reach` and `Pen`. Version and block stay apart, as in `reader`.
 ghost use Rattle.message.specs.Write.{write_message};
 ghost use Rattle.writer.specs.Answer.{Settles};
 
