@@ -9,7 +9,7 @@ use mir.Syntax.{w64}
 use mir.Val.{SFits, to_z}
 use mir.ValLaws.{to_z-Fits}
 use Rattle.wire.specs.declared.Span.{Span}
-use Rattle.wire.specs.Cursors.{Cursor, refuse, Taken}
+use Rattle.wire.specs.Cursors.{Cursor, Taken}
 use Rattle.std.specs.Prelude.{Ok, Err}
 use Rattle.wire.specs.Numbers.{most32, most64}
 use Rattle.wire.specs.Fields.{number_field, letter_field, text_field, bytes_field, value_field, position_of}

@@ -8,7 +8,7 @@ use native.Mathlib.Omega.{arith}
 use mir.Syntax.{w32}
 use mir.Val.{of_z}
 use mir.ValLaws.{of_z-to_z}
-use Rattle.wire.specs.Cursors.{Cursor, refuse}
+use Rattle.wire.specs.Cursors.{Cursor}
 use Rattle.std.specs.Prelude.{Option, Some, None, Result, Ok, Err}
 use Rattle.wire.specs.Numbers.{most32}
 use Rattle.wire.specs.Fields.{number_field}

@@ -5,7 +5,7 @@ use mathlib.Core.Path.{◌≡◌, sym, ◌∙◌, subst}
 use borrow.Author.Tests.{le-leb}
 use lib.ListN.{length, get_or, drop}
 use Rattle.message.specs.declared.Message.{Message}
-use Rattle.std.specs.Prelude.{Ok, Err}
+use Rattle.std.specs.Prelude.{Ok}
 use Rattle.message.specs.Write.{bytes}
 use Rattle.message.proofs.Accepted.{accepted}
 use Rattle.message.proofs.RoundTrip.{write_after_read}

@@ -8,7 +8,7 @@ use native.Mathlib.Omega.{arith}
 use borrow.Author.Tests.{eq-eqb, ne_eqb, le-ltb}
 use lib.ListN.{length, get_or, drop, length-drop}
 use lib.Seq.{take_all, drop-cons}
-use Rattle.wire.specs.Cursors.{Cursor, refuse}
+use Rattle.wire.specs.Cursors.{Cursor}
 use Rattle.wire.specs.Fields.{member}
 use Rattle.message.specs.declared.Version.{Version}
 use Rattle.message.specs.declared.Message.{Message}

@@ -8,7 +8,7 @@ use native.Mathlib.Omega.{arith}
 use borrow.Author.Tests.{leb-true}
 use lib.ListN.{length, get_or, take, drop}
 use lib.Dec.{eqb, leb}
-use Rattle.wire.specs.Cursors.{Cursor, refuse}
+use Rattle.wire.specs.Cursors.{Cursor}
 use Rattle.wire.specs.Fields.{number_field, letter_field, text_field, bytes_field, in_range, member}
 use Rattle.message.specs.declared.Version.{Version}
 use Rattle.message.specs.declared.Message.{Message}

@@ -1,7 +1,7 @@
 -- To be believed (demand 2). What writing a message gives, over the layouts that reading interprets: the message's bytes, or the first refusal
 -- (document 01, the paragraph on writing under "The refusal table").
 use Rattle.std.specs.Prelude.{ℕ, zero, suc, ◌+◌, ◌-◌, List, [], ◌∷◌, ◌++◌, Bool, not, cond, length, get_or, take, drop, eqb, leb, Ok, Err, Some}
-use Rattle.wire.specs.Cursors.{Cursor, refuse}
+use Rattle.wire.specs.Cursors.{Cursor}
 use Rattle.wire.specs.Fields.{in_range, member, number_field, letter_field, text_field, bytes_field}
 use Rattle.message.specs.declared.Version.{Version}
 use Rattle.message.specs.declared.Message.{Message}

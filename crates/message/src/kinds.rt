@@ -51,9 +51,7 @@ impl Kind {
             Kind::StreamAbort => 14,
         }
     }
-}
 
-impl Kind {
     // The first version that has it.
     pub fn first_version(self) -> u32
         ensures { result ≡ first_version self }

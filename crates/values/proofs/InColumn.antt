@@ -7,7 +7,7 @@ use native.Mathlib.Omega.{arith}
 use borrow.Author.Tests.{le-leb, eq-eqb, ne_eqb}
 use lib.ListN.{length, length-append}
 use lib.Seq.{drop-append_seam}
-use Rattle.std.specs.Prelude.{Ok, Some, None, Err}
+use Rattle.std.specs.Prelude.{Ok, Some}
 use Rattle.wire.specs.Fields.{value_field, member}
 use Rattle.message.specs.Encode.{digits}
 use Rattle.message.proofs.From.{From, be-from, from_first, from_next, number-from, letter-from, bytes-from}

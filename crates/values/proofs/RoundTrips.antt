@@ -22,7 +22,7 @@ use Rattle.values.specs.declared.Value.{Value}
 use Rattle.values.specs.declared.Value.TheVariants as v
 use Rattle.values.specs.declared.Bits.{Bits}
 use Rattle.values.specs.declared.Bits.TheVariants.{Number}
-use Rattle.std.specs.Prelude.{Some, None, Ok, Err}
+use Rattle.std.specs.Prelude.{Some, Ok}
 use Rattle.values.specs.Types.{row_of, is_raw, kind_of_type, has_width, value_of, kind_of, bits_of, allowed, typed_value}
 use Rattle.wire.specs.Cursors.{refuse}
 use Rattle.values.specs.Steps.{binary, one, typed_item, typed_step}

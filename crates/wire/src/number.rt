@@ -18,9 +18,10 @@ pub trait Number: Copy {
     fn wide(self) -> u64
         ensures { result ≡ value self };
 
-    // A number that is no more than one of this type, in it.
+    // A number in this type, and `most` where it does not fit. What is no more than `most` fits.
     fn narrow(n: u64, most: Self) -> Self
-        ensures { n ≤ value most → result ≡ of n };
+        ensures whole { result ≡ cond (ltb n (256 ^ WIDTH)) (of n) most }
+        ensures fits { n ≤ value most → result ≡ of n };
 
     // A number that fits, else 0.
     fn fitting(n: u64) -> Self

@@ -1,5 +1,4 @@
 use Rattle.std.proofs.Common.{sym, ◌∙◌}
-use Rattle.wire.specs.Fields.{value_field}
 use Rattle.wire.proofs.Given.{went_on}
 use Rattle.values.specs.Steps.{binary_field}
 use Rattle.values.proofs.Inside.{inside}

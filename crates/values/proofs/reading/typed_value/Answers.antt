@@ -1,6 +1,5 @@
-use Rattle.std.proofs.Common.{◌≡◌, sym, ◌∙◌, ap, refl, arith, rules}
+use Rattle.std.proofs.Common.{◌≡◌, sym, ◌∙◌, refl, rules}
 use Rattle.std.specs.Prelude.{Ok, Err}
-use Rattle.wire.specs.Cursors.{Taken}
 use Rattle.wire.specs.Fields.{number_field}
 use Rattle.wire.proofs.Fields.{value_le}
 use Rattle.wire.proofs.Given.{stopped, went_on}
