@@ -112,6 +112,7 @@ fn tuple_step(bytes: &[u8], position: &mut [u64; 2], out: &mut [u64; 5]) -> u32
     }
 }
 
+#[inline(never)]
 fn relation_step(bytes: &[u8], position: &mut [u64; 2], out: &mut [u64; 5]) -> u32
     ensures out_after { filled result out.new ≡ step_numbers 2 bytes.now position.old }
     ensures position_after { position.new ≡ moved_on 2 bytes.now position.old }
@@ -135,6 +136,7 @@ fn relation_step(bytes: &[u8], position: &mut [u64; 2], out: &mut [u64; 5]) -> u
     }
 }
 
+#[inline(never)]
 fn oid_step(bytes: &[u8], position: &mut [u64; 2], out: &mut [u64; 5]) -> u32
     ensures out_after { filled result out.new ≡ step_numbers 3 bytes.now position.old }
     ensures position_after { position.new ≡ moved_on 3 bytes.now position.old }

@@ -7,6 +7,7 @@ use crate::MOST_COLUMNS;
 use wire::{Reader, Refusal};
 
 // An xid, sub-xid or relation OID, which is not 0.
+#[inline(always)]
 pub fn id(r: &mut Reader) -> Result<u32, Refusal>
     ensures { Reads (number_of id r.old.bytes.now r.old.next) r.old result r.new }
 {
@@ -14,6 +15,7 @@ pub fn id(r: &mut Reader) -> Result<u32, Refusal>
 }
 
 // How many columns a tuple or a relation has.
+#[inline(always)]
 pub fn column_count(r: &mut Reader) -> Result<u16, Refusal>
     ensures { Reads (column_count r.old.bytes.now r.old.next) r.old result r.new }
 {
@@ -21,6 +23,7 @@ pub fn column_count(r: &mut Reader) -> Result<u16, Refusal>
 }
 
 // The letter of a column of a tuple.
+#[inline(always)]
 pub fn column_letter(r: &mut Reader) -> Result<u8, Refusal>
     ensures { Reads (column_letter r.old.bytes.now r.old.next) r.old result r.new }
 {
@@ -28,6 +31,7 @@ pub fn column_letter(r: &mut Reader) -> Result<u8, Refusal>
 }
 
 // Whether a column of this letter has a value.
+#[inline(always)]
 pub fn has_value(letter: u8) -> bool
     ensures { result ≡ has_value letter }
 {

@@ -25,14 +25,12 @@ pub fn read_insert(s: &[u8], in_block: bool) -> Result<Message, Refusal>
     let relation = fields::id(&mut r)?;
     r.letter(b"N")?;
     let tuple = tuples::tuple(&mut r)?;
-    framing::settle(
-        &r,
-        Message::Insert(Insert {
-            xid,
-            relation,
-            tuple,
-        }),
-    )
+    framing::finish(&r)?;
+    Ok(Message::Insert(Insert {
+        xid,
+        relation,
+        tuple,
+    }))
 }
 
 pub fn read_update(s: &[u8], in_block: bool) -> Result<Message, Refusal>
@@ -44,15 +42,13 @@ pub fn read_update(s: &[u8], in_block: bool) -> Result<Message, Refusal>
     let old = tuples::old_tuple(&mut r)?;
     r.letter(b"N")?;
     let tuple = tuples::tuple(&mut r)?;
-    framing::settle(
-        &r,
-        Message::Update(Update {
-            xid,
-            relation,
-            old,
-            tuple,
-        }),
-    )
+    framing::finish(&r)?;
+    Ok(Message::Update(Update {
+        xid,
+        relation,
+        old,
+        tuple,
+    }))
 }
 
 pub fn read_delete(s: &[u8], in_block: bool) -> Result<Message, Refusal>
@@ -63,15 +59,13 @@ pub fn read_delete(s: &[u8], in_block: bool) -> Result<Message, Refusal>
     let relation = fields::id(&mut r)?;
     let image = r.letter(b"KO")?;
     let tuple = tuples::tuple(&mut r)?;
-    framing::settle(
-        &r,
-        Message::Delete(Delete {
-            xid,
-            relation,
-            image,
-            tuple,
-        }),
-    )
+    framing::finish(&r)?;
+    Ok(Message::Delete(Delete {
+        xid,
+        relation,
+        image,
+        tuple,
+    }))
 }
 
 pub fn read_truncate(s: &[u8], in_block: bool) -> Result<Message, Refusal>
@@ -83,15 +77,13 @@ pub fn read_truncate(s: &[u8], in_block: bool) -> Result<Message, Refusal>
     let options = r.number::<u8>(0, 3, Refusal::FIELD)?;
     let relations = r.next?;
     r.next = relation_oids(s, r.next, count);
-    framing::settle(
-        &r,
-        Message::Truncate(Truncate {
-            xid,
-            count,
-            options,
-            relations,
-        }),
-    )
+    framing::finish(&r)?;
+    Ok(Message::Truncate(Truncate {
+        xid,
+        count,
+        options,
+        relations,
+    }))
 }
 
 pub fn read_logical_message(s: &[u8], in_block: bool) -> Result<Message, Refusal>
@@ -103,14 +95,12 @@ pub fn read_logical_message(s: &[u8], in_block: bool) -> Result<Message, Refusal
     let lsn = r.number::<u64>(0, u64::MAX, Refusal::FIELD)?;
     let prefix = r.text()?;
     let content = r.value()?;
-    framing::settle(
-        &r,
-        Message::Message(LogicalMessage {
-            xid,
-            flags,
-            lsn,
-            prefix,
-            content,
-        }),
-    )
+    framing::finish(&r)?;
+    Ok(Message::Message(LogicalMessage {
+        xid,
+        flags,
+        lsn,
+        prefix,
+        content,
+    }))
 }

@@ -8,6 +8,12 @@ use crate::{changes, transactions};
 use message::{Begin, Commit, Delete, Insert, Message, Update, Version};
 use wire::Refusal;
 
+// What this crate alone can make, so that nobody else calls a reader that asks for no version.
+#[derive(Clone, Copy)]
+pub struct Inside {
+    only: (),
+}
+
 // A kind that most messages are of, and that every version has.
 pub trait Common {
     ghost kind: { Kind };
@@ -16,7 +22,7 @@ pub trait Common {
 
     const LETTER: u8;
 
-    fn read(bytes: &[u8], in_block: bool) -> Result<Message, Refusal>
+    fn read(bytes: &[u8], in_block: bool, inside: Inside) -> Result<Message, Refusal>
         ensures { result ≡ read_kind kind in_block bytes.now };
 
     ghost since: { first_version kind ≡ 1 };
@@ -32,7 +38,7 @@ impl Common for Begin {
     const LETTER: u8 = b'B';
 
     #[tactic(auto, unfolding(message::specs::Messages::read_kind))]
-    fn read(bytes: &[u8], _in_block: bool) -> Result<Message, Refusal> {
+    fn read(bytes: &[u8], _in_block: bool, _inside: Inside) -> Result<Message, Refusal> {
         transactions::read_begin(bytes)
     }
 
@@ -49,7 +55,7 @@ impl Common for Commit {
     const LETTER: u8 = b'C';
 
     #[tactic(auto, unfolding(message::specs::Messages::read_kind))]
-    fn read(bytes: &[u8], _in_block: bool) -> Result<Message, Refusal> {
+    fn read(bytes: &[u8], _in_block: bool, _inside: Inside) -> Result<Message, Refusal> {
         transactions::read_commit(bytes)
     }
 
@@ -65,7 +71,7 @@ impl Common for Insert {
 
     const LETTER: u8 = b'I';
 
-    fn read(bytes: &[u8], in_block: bool) -> Result<Message, Refusal> {
+    fn read(bytes: &[u8], in_block: bool, _inside: Inside) -> Result<Message, Refusal> {
         changes::read_insert(bytes, in_block)
     }
 
@@ -81,7 +87,7 @@ impl Common for Update {
 
     const LETTER: u8 = b'U';
 
-    fn read(bytes: &[u8], in_block: bool) -> Result<Message, Refusal> {
+    fn read(bytes: &[u8], in_block: bool, _inside: Inside) -> Result<Message, Refusal> {
         changes::read_update(bytes, in_block)
     }
 
@@ -97,7 +103,7 @@ impl Common for Delete {
 
     const LETTER: u8 = b'D';
 
-    fn read(bytes: &[u8], in_block: bool) -> Result<Message, Refusal> {
+    fn read(bytes: &[u8], in_block: bool, _inside: Inside) -> Result<Message, Refusal> {
         changes::read_delete(bytes, in_block)
     }
 
@@ -130,7 +136,7 @@ pub fn expecting<M: Common>(
     ensures { result ≡ read_message version in_block bytes.now }
 {
     if opens_with(version, in_block, bytes, M::LETTER) {
-        M::read(bytes, in_block)
+        M::read(bytes, in_block, Inside { only: () })
     } else {
         crate::read_message(version, in_block, bytes)
     }

@@ -2,14 +2,15 @@
 ghost use Rattle.std.specs.Prelude.{◌≡◌};
 ghost use Rattle.wire.specs.Readers.{Reads};
 ghost use Rattle.message.specs.Layout.{xid_field};
-ghost use Rattle.message.specs.Messages.{finished, settled};
+ghost use Rattle.message.specs.Messages.{finished};
 
-use message::{Message, fields};
-use wire::{Reader, Refusal};
+use message::fields;
+use wire::{Cursor, Reader, Refusal};
 
-// The message, unless reading was refused or bytes are left over.
-pub fn settle(r: &Reader, m: Message) -> Result<Message, Refusal>
-    ensures { result ≡ settled (finished r.now.bytes.now r.now.next) m }
+// Where a message ends, unless reading was refused or bytes are left over.
+#[inline(always)]
+pub fn finish(r: &Reader) -> Cursor
+    ensures { result ≡ finished r.now.bytes.now r.now.next }
 {
     let at = r.next?;
     if at != r.bytes.len() {
@@ -18,10 +19,11 @@ pub fn settle(r: &Reader, m: Message) -> Result<Message, Refusal>
             offset: at,
         });
     }
-    Ok(m)
+    Ok(at)
 }
 
 // The xid of a message inside a stream block; elsewhere 0, and no byte is read.
+#[inline(always)]
 #[tactic(auto, unfolding(message::specs::Layout::xid_field))]
 pub fn block_xid(r: &mut Reader, in_block: bool) -> Result<u32, Refusal>
     ensures { Reads (xid_field in_block r.old.bytes.now r.old.next) r.old result r.new }

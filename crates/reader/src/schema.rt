@@ -29,18 +29,16 @@ pub fn read_relation(s: &[u8], in_block: bool) -> Result<Message, Refusal>
     let count = fields::column_count(&mut r)?;
     let columns = r.next?;
     r.next = relation_columns(s, r.next, count);
-    framing::settle(
-        &r,
-        Message::Relation(Relation {
-            xid,
-            relation,
-            namespace,
-            name,
-            identity,
-            count,
-            columns,
-        }),
-    )
+    framing::finish(&r)?;
+    Ok(Message::Relation(Relation {
+        xid,
+        relation,
+        namespace,
+        name,
+        identity,
+        count,
+        columns,
+    }))
 }
 
 pub fn read_type(s: &[u8], in_block: bool) -> Result<Message, Refusal>
@@ -51,13 +49,11 @@ pub fn read_type(s: &[u8], in_block: bool) -> Result<Message, Refusal>
     let oid = r.number::<u32>(0, u32::MAX, Refusal::FIELD)?;
     let namespace = r.text()?;
     let name = r.text()?;
-    framing::settle(
-        &r,
-        Message::Type(Type {
-            xid,
-            oid,
-            namespace,
-            name,
-        }),
-    )
+    framing::finish(&r)?;
+    Ok(Message::Type(Type {
+        xid,
+        oid,
+        namespace,
+        name,
+    }))
 }

@@ -15,14 +15,12 @@ pub fn read_begin(s: &[u8]) -> Result<Message, Refusal>
     let final_lsn = r.number::<u64>(0, u64::MAX, Refusal::FIELD)?;
     let time = r.number::<u64>(0, u64::MAX, Refusal::FIELD)?;
     let xid = fields::id(&mut r)?;
-    framing::settle(
-        &r,
-        Message::Begin(Begin {
-            final_lsn,
-            time: time.cast_signed(),
-            xid,
-        }),
-    )
+    framing::finish(&r)?;
+    Ok(Message::Begin(Begin {
+        final_lsn,
+        time: time.cast_signed(),
+        xid,
+    }))
 }
 
 pub fn read_commit(s: &[u8]) -> Result<Message, Refusal>
@@ -33,15 +31,13 @@ pub fn read_commit(s: &[u8]) -> Result<Message, Refusal>
     let commit_lsn = r.number::<u64>(0, u64::MAX, Refusal::FIELD)?;
     let end_lsn = r.number::<u64>(0, u64::MAX, Refusal::FIELD)?;
     let time = r.number::<u64>(0, u64::MAX, Refusal::FIELD)?;
-    framing::settle(
-        &r,
-        Message::Commit(Commit {
-            flags,
-            commit_lsn,
-            end_lsn,
-            time: time.cast_signed(),
-        }),
-    )
+    framing::finish(&r)?;
+    Ok(Message::Commit(Commit {
+        flags,
+        commit_lsn,
+        end_lsn,
+        time: time.cast_signed(),
+    }))
 }
 
 pub fn read_origin(s: &[u8]) -> Result<Message, Refusal>
@@ -50,7 +46,8 @@ pub fn read_origin(s: &[u8]) -> Result<Message, Refusal>
     let mut r = Reader::at(s, 1);
     let lsn = r.number::<u64>(0, u64::MAX, Refusal::FIELD)?;
     let name = r.text()?;
-    framing::settle(&r, Message::Origin(Origin { lsn, name }))
+    framing::finish(&r)?;
+    Ok(Message::Origin(Origin { lsn, name }))
 }
 
 pub fn read_stream_start(s: &[u8]) -> Result<Message, Refusal>
@@ -59,13 +56,15 @@ pub fn read_stream_start(s: &[u8]) -> Result<Message, Refusal>
     let mut r = Reader::at(s, 1);
     let xid = fields::id(&mut r)?;
     let first = r.number::<u8>(0, 1, Refusal::FIELD)?;
-    framing::settle(&r, Message::StreamStart { xid, first })
+    framing::finish(&r)?;
+    Ok(Message::StreamStart { xid, first })
 }
 
 pub fn read_stream_stop(s: &[u8]) -> Result<Message, Refusal>
     ensures { result ≡ read_kind stream_stop false s.now }
 {
-    framing::settle(&Reader::at(s, 1), Message::StreamStop)
+    framing::finish(&Reader::at(s, 1))?;
+    Ok(Message::StreamStop)
 }
 
 pub fn read_stream_commit(s: &[u8]) -> Result<Message, Refusal>
@@ -77,16 +76,14 @@ pub fn read_stream_commit(s: &[u8]) -> Result<Message, Refusal>
     let commit_lsn = r.number::<u64>(0, u64::MAX, Refusal::FIELD)?;
     let end_lsn = r.number::<u64>(0, u64::MAX, Refusal::FIELD)?;
     let time = r.number::<u64>(0, u64::MAX, Refusal::FIELD)?;
-    framing::settle(
-        &r,
-        Message::StreamCommit(StreamCommit {
-            xid,
-            flags,
-            commit_lsn,
-            end_lsn,
-            time: time.cast_signed(),
-        }),
-    )
+    framing::finish(&r)?;
+    Ok(Message::StreamCommit(StreamCommit {
+        xid,
+        flags,
+        commit_lsn,
+        end_lsn,
+        time: time.cast_signed(),
+    }))
 }
 
 pub fn read_stream_abort(s: &[u8]) -> Result<Message, Refusal>
@@ -95,5 +92,6 @@ pub fn read_stream_abort(s: &[u8]) -> Result<Message, Refusal>
     let mut r = Reader::at(s, 1);
     let xid = fields::id(&mut r)?;
     let sub_xid = fields::id(&mut r)?;
-    framing::settle(&r, Message::StreamAbort { xid, sub_xid })
+    framing::finish(&r)?;
+    Ok(Message::StreamAbort { xid, sub_xid })
 }

@@ -17,7 +17,7 @@ low_more k v b h =
     rw (d, m)
 
 -- one byte before k bytes of a list
-spells_more :
+pub spells_more :
     (xs : List ℕ) (i k v : ℕ) → i < length xs → get_or xs i 0 < 256
     → low_bytes k v ≡ take k (drop (suc i) xs) → low_bytes (suc k) (v * 256 + get_or xs i 0) ≡ take (suc k) (drop i xs)
 spells_more xs i k v h b e =

@@ -29,6 +29,18 @@ member_any [] v = refl
 member_any (x ∷ xs) v = ap (λ (b : Bool). x == v || b) (member_any xs v)
 
 module _ (xs : List ℕ) (i : ℕ) where
+  pub member_here : (v : ℕ) → i < length xs → get_or xs i 0 ≡ v → member (drop i xs) v ≡ true
+  unfolding member
+  member_here v h e = rw (drop-cons xs i 0, eq-eqb (get_or xs i 0) v e)
+
+  pub member_next : (v : ℕ) → i < length xs → (get_or xs i 0 ≡ v → ⊥) → member (drop i xs) v ≡ member (drop (i + 1) xs) v
+  unfolding member
+  member_next v h e = rw (add-one, drop-cons xs i 0, ne_eqb (get_or xs i 0) v e)
+
+  pub member_end : (v : ℕ) → length xs ≤ i → member (drop i xs) v ≡ false
+  unfolding member
+  member_end v h = rw (drop_of_length-le xs h)
+
   pub until_here : i < length xs → get_or xs i 0 ≡ 0 → until_zero (drop i xs) ≡ 0
   unfolding until_zero
   until_here h e = rw (drop-cons xs i 0, eq-eqb (get_or xs i 0) 0 e)

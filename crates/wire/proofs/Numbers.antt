@@ -1,5 +1,5 @@
 -- The laws of big-endian numbers, over the width. Assumes nothing.
-use Rattle.std.proofs.Common.{◌≡◌, ℕ, ◌+◌, ◌*◌, ◌^◌, ◌<◌, ◌≤◌, Bool, true, false, cond, leb, List, length, get_or, refl, pow-suc, add-one, arith, lit<, le-leb, leb-true}
+use Rattle.std.proofs.Common.{◌≡◌, ℕ, ◌+◌, ◌*◌, ◌^◌, ◌<◌, ◌≤◌, Bool, true, false, cond, leb, List, length, refl, pow-suc, add-one, arith, lit<, le-leb, leb-true}
 use native.Mathlib.Nat.{pow-le-pow_right}
 use Rattle.std.specs.Prelude.{Some, None}
 use Rattle.wire.specs.Numbers.{be, word_at}
@@ -11,10 +11,6 @@ more k hv hb = rw (add-one, pow-suc) (omega arith)
 -- eight bytes at most fit 64 bits
 pub within : {k : ℕ} → k ≤ 8 → 256 ^ k ≤ 2 ^ 64
 within h = pow-le-pow_right (lit< tt) h
-
-pub be_more : (k : ℕ) (xs : List ℕ) (at : ℕ) → be (k + 1) xs at ≡ be k xs at * 256 + get_or xs (at + k) 0
-unfolding be
-be_more k xs at = rw add-one
 
 module _ (k : ℕ) (xs : List ℕ) (at : ℕ) where
   pub word_there : at + k ≤ length xs → word_at k xs at ≡ Some (be k xs at)

@@ -1,8 +1,17 @@
 // The numbers that a field may hold, over their type.
-ghost use Rattle.std.specs.Prelude.{◌≡◌, ℕ, ◌≤◌, ◌^◌, cond, ltb};
+ghost use Rattle.std.specs.Prelude.{◌≡◌, ℕ, ◌+◌, ◌≤◌, ◌^◌, cond, length, ltb, nat_le};
 ghost use Rattle.std.proofs.Common.{rules};
+ghost use Rattle.wire.specs.Numbers.{word_at};
 
 use std::convert::TryFrom;
+
+// Whether so many bytes are there.
+#[inline(always)]
+fn are_there(s: &[u8], at: usize, width: usize) -> bool
+    ensures { result ≡ nat_le (at + width) (length s.now) }
+{
+    at <= s.len() && width <= s.len() - at
+}
 
 // An unsigned number of one, two, four or eight bytes.
 pub trait Number: Copy {
@@ -14,6 +23,10 @@ pub trait Number: Copy {
 
     // How many bytes it has.
     const WIDTH: usize;
+
+    // The big-endian number at a place, in 64 bits, where its bytes are there.
+    fn at(s: &[u8], at: usize) -> Option<u64>
+        ensures { result ≡ word_at WIDTH s.now at };
 
     fn wide(self) -> u64
         ensures { result ≡ value self };
@@ -39,6 +52,15 @@ impl Number for u8 {
 
     const WIDTH: usize = 1;
 
+    #[inline(always)]
+    #[tactic(auto, unfolding(crate::specs::Numbers::word_at, crate::specs::Numbers::be))]
+    fn at(s: &[u8], at: usize) -> Option<u64> {
+        if !are_there(s, at, 1) {
+            return None;
+        }
+        Some(u64::from(s[at]))
+    }
+
     fn wide(self) -> u64 {
         u64::from(self)
     }
@@ -62,6 +84,15 @@ impl Number for u16 {
     ghost of = { λ n. n };
 
     const WIDTH: usize = 2;
+
+    #[inline(always)]
+    #[tactic(auto, unfolding(crate::specs::Numbers::word_at, crate::specs::Numbers::be))]
+    fn at(s: &[u8], at: usize) -> Option<u64> {
+        if !are_there(s, at, 2) {
+            return None;
+        }
+        Some(u64::from(u16::from_be_bytes([s[at], s[at + 1]])))
+    }
 
     fn wide(self) -> u64 {
         u64::from(self)
@@ -87,6 +118,15 @@ impl Number for u32 {
 
     const WIDTH: usize = 4;
 
+    #[inline(always)]
+    #[tactic(auto, unfolding(crate::specs::Numbers::word_at, crate::specs::Numbers::be))]
+    fn at(s: &[u8], at: usize) -> Option<u64> {
+        if !are_there(s, at, 4) {
+            return None;
+        }
+        Some(u64::from(u32::from_be_bytes([s[at], s[at + 1], s[at + 2], s[at + 3]])))
+    }
+
     fn wide(self) -> u64 {
         u64::from(self)
     }
@@ -111,6 +151,24 @@ impl Number for u64 {
 
     const WIDTH: usize = 8;
 
+    #[inline(always)]
+    #[tactic(auto, unfolding(crate::specs::Numbers::word_at, crate::specs::Numbers::be))]
+    fn at(s: &[u8], at: usize) -> Option<u64> {
+        if !are_there(s, at, 8) {
+            return None;
+        }
+        Some(u64::from_be_bytes([
+            s[at],
+            s[at + 1],
+            s[at + 2],
+            s[at + 3],
+            s[at + 4],
+            s[at + 5],
+            s[at + 6],
+            s[at + 7],
+        ]))
+    }
+
     fn wide(self) -> u64 {
         self
     }
@@ -134,6 +192,12 @@ impl Number for usize {
     ghost of = { λ n. n };
 
     const WIDTH: usize = 8;
+
+    #[inline(always)]
+    #[tactic(auto, unfolding(crate::specs::Numbers::word_at, crate::specs::Numbers::be))]
+    fn at(s: &[u8], at: usize) -> Option<u64> {
+        u64::at(s, at)
+    }
 
     fn wide(self) -> u64 {
         self as u64

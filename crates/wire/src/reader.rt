@@ -1,7 +1,6 @@
 // A reader of fields, one after another.
 ghost use Rattle.std.specs.Prelude.{◌≡◌, ◌≤◌};
-ghost use Rattle.wire.specs.Numbers.{word_at};
-ghost use Rattle.wire.specs.Fields.{number_field, letter_field, text_field, bytes_field, value_field, in_type, position_of};
+ghost use Rattle.wire.specs.Fields.{member, number_field, letter_field, text_field, bytes_field, value_field, in_type, position_of};
 ghost use Rattle.wire.specs.Readers.{Reads, refuses};
 ghost use Rattle.wire.specs.ValueEnd.{value_end};
 
@@ -14,23 +13,18 @@ pub struct Reader<'a> {
     pub next: Cursor,
 }
 
-// The big-endian number of `width` bytes at `at`, where they are there.
-#[tactic(auto, unfolding(crate::specs::Numbers::word_at))]
-fn word_at(s: &[u8], at: usize, width: usize) -> Option<u64>
-    requires { width ≤ 8 }
-    ensures { result ≡ word_at width s.now at }
+// Whether a byte is among a few. A call of std's `contains`, which goes by groups, takes longer than the rest of a letter.
+#[inline(always)]
+#[tactic(auto, using(crate::proofs::Fields::member_here, crate::proofs::Fields::member_next, crate::proofs::Fields::member_end))]
+fn is_among(set: &[u8], b: u8) -> bool
+    ensures { result ≡ member set.now b }
 {
-    if s.len() < at {
-        return None;
+    for letter in set {
+        if *letter == b {
+            return true;
+        }
     }
-    if s.len() - at < width {
-        return None;
-    }
-    let mut v: u64 = 0;
-    for k in 0..width {
-        v = v * 256 + s[at + k] as u64;
-    }
-    Some(v)
+    false
 }
 
 impl<'a> Reader<'a> {
@@ -54,6 +48,7 @@ impl<'a> Reader<'a> {
     }
 
     // Refuses at an offset, and stays so.
+    #[inline(always)]
     fn refuse<T>(&mut self, number: u8, offset: usize) -> Result<T, Refusal>
         ensures { refuses number offset self.old result self.new }
     {
@@ -69,7 +64,7 @@ impl<'a> Reader<'a> {
         ensures { Reads (in_type N.of (number_field N.WIDTH (N.value low) (N.value high) refusal self.old.bytes.now self.old.next)) self.old result self.new }
     {
         let at = self.next?;
-        let Some(v) = word_at(self.bytes, at, N::WIDTH) else {
+        let Some(v) = N::at(self.bytes, at) else {
             return self.refuse(Refusal::SHORT, at);
         };
         if v < low.wide() || high.wide() < v {
@@ -80,6 +75,7 @@ impl<'a> Reader<'a> {
     }
 
     // One of the letters of a set.
+    #[inline(always)]
     #[tactic(auto, unfolding(crate::specs::Fields::letter_field))]
     pub fn letter(&mut self, set: &[u8]) -> Result<u8, Refusal>
         ensures { Reads (letter_field set.now self.old.bytes.now self.old.next) self.old result self.new }
@@ -89,7 +85,7 @@ impl<'a> Reader<'a> {
             return self.refuse(Refusal::SHORT, at);
         }
         let b = self.bytes[at];
-        if !set.contains(&b) {
+        if !is_among(set, b) {
             return self.refuse(Refusal::FIELD, at);
         }
         self.next = Ok(at + 1);
@@ -144,7 +140,7 @@ impl<'a> Reader<'a> {
 pub fn value_end(s: &[u8], at: usize) -> Option<usize>
     ensures { result ≡ value_end s.now at }
 {
-    let n = word_at(s, at, 4)? as usize;
+    let n = u32::at(s, at)? as usize;
     let start = at + 4;
     if n <= s.len() - start {
         Some(start + n)
