@@ -4,11 +4,13 @@
 // C3 4D, a length of 32 bits and a message. The version is the first argument, 2 where there is none. A message that is longer than
 // the room is passed over. What cannot be written is left out.
 use answers::Answered;
+use arrayvec::ArrayString;
 use message::Message;
 use records::{Record, Records};
 use session::{Session, Stepped};
 use std::alloc::{AllocError, Global};
 use std::env::{Env, FillError};
+use std::fmt::Write;
 use std::{io, str};
 use summary::Counts;
 use text::Text;
@@ -28,12 +30,16 @@ mod turns;
 mod typed;
 mod types;
 
-// A trace as far as it was told.
+// The longest line, an Update of two tuples, has less than 20,000 bytes.
+const LINE: usize = 20_000;
+
+// A trace as far as it was told, and the line that tells a message, which is written in one.
 #[derive(Drop)]
 struct Teller {
     session: Session,
     counts: Counts,
     types: Types,
+    line: ArrayString<LINE>,
 }
 
 impl Teller {
@@ -42,6 +48,7 @@ impl Teller {
             session: session::start(version),
             counts: Counts::none(),
             types: Types::new(alloc),
+            line: ArrayString::new(),
         }
     }
 
@@ -59,7 +66,9 @@ impl Teller {
             read,
             bytes,
         };
-        let _ = println!(rt; "{index} {told}: {answered}");
+        self.line.clear();
+        let _ = writeln!(self.line, "{index} {told}: {answered}");
+        let _ = rt.write_all(self.line.as_bytes());
         let place = session::place_of(before);
         let next = session::place_of(session);
         self.counts.add_message(place, answer, next, bytes.len());
