@@ -58,53 +58,39 @@ impl<'a> Announced<'a> {
 
 impl<'a> Reading<'a> {
     // Reads a column at a position, where it is binary.
-    fn read_column(
-        &mut self,
-        bytes: &[u8],
-        at: Position,
-        column: Column,
-        type_oid: u32,
-    ) -> Result<(), AllocError> {
+    fn read_column(&mut self, bytes: &[u8], at: Position, column: Column, type_oid: u32) {
         if column.letter != Column::BINARY {
-            return Ok(());
+            return;
         }
         match written_back(bytes, at, type_oid, columns::part(bytes, column.value)) {
-            Some(value) => self.sums.add(value)?,
+            Some(value) => self.sums.add(value),
             None => self.sums.add_wrong(),
         }
-        Ok(())
     }
 
     // Reads the columns of a tuple from a position on.
-    fn read_tuple(
-        &mut self,
-        bytes: &[u8],
-        first: Position,
-        announced: Option<Announced<'a>>,
-    ) -> Result<(), AllocError> {
+    fn read_tuple(&mut self, bytes: &[u8], first: Position, announced: Option<Announced<'a>>) {
         let mut at = first;
         let mut types = announced;
         for _ in 0..first.left {
             let type_oid = types.as_mut().map_or(0, |types| types.next_type());
             let Step { item, next } = columns::item_at::<Column>(bytes, at);
             if let Ok(Some(column)) = item {
-                self.read_column(bytes, at, column, type_oid)?;
+                self.read_column(bytes, at, column, type_oid);
             }
             at = next;
         }
-        Ok(())
     }
 
     // Both tuples of a change.
-    fn read_change(&mut self, bytes: &[u8], tag: u64) -> Result<(), AllocError> {
+    fn read_change(&mut self, bytes: &[u8], tag: u64) {
         let announced = self.announced.get(&tag).copied();
         for which in [Which::Old, Which::New] {
             let started = columns::tuple_start(self.version, self.in_block, bytes, which);
             if let Ok(first) = started {
-                self.read_tuple(bytes, first, announced)?;
+                self.read_tuple(bytes, first, announced);
             }
         }
-        Ok(())
     }
 
     fn note(&mut self, message: &'a [u8], index: u64) -> Result<(), AllocError> {
@@ -123,25 +109,24 @@ impl<'a> Reading<'a> {
         let answer = session::give_lent(&mut self.session, message, index);
         self.note(message, index)?;
         if let Ok(Some(seen)) = answer {
-            self.read_change(message, seen.tag)?;
+            self.read_change(message, seen.tag);
         }
-        self.in_block = stays_in_block(self.in_block, message);
+        self.in_block = stays_in_block(self.in_block, message.first().copied());
         Ok(())
     }
 }
 
 // All binary values of a feed.
 pub fn read_all(alloc: Global, version: u32, trace: &[u8]) -> Result<Sums, AllocError> {
-    let Records { messages, .. } = Records::of(alloc, trace, FEED)?;
     let mut reading = Reading {
         session: session::start(version),
         version: Version { number: version },
         in_block: false,
         announced: BTreeMap::new(alloc),
-        sums: Sums::new(alloc),
+        sums: Sums::new(),
     };
-    for (index, message) in messages.iter().enumerate() {
-        reading.read(message, index as u64)?;
+    for (index, record) in Records::of(trace, FEED).enumerate() {
+        reading.read(record.message, index as u64)?;
     }
     let Reading { sums, .. } = reading;
     Ok(sums)

@@ -3,7 +3,7 @@ ghost use Rattle.std.specs.Prelude.{◌≡◌, ◌-◌, vec_len};
 
 use crate::giving::Sessions;
 use crate::notes::Note;
-use crate::records::{FEED, Records};
+use crate::records::{FEED, Record, Records};
 use std::alloc::{AllocError, Global};
 
 // A plan has at most so many messages, and fewer blocks than this.
@@ -57,9 +57,9 @@ fn xid_of(message: &[u8]) -> [u8; 4] {
     xid
 }
 
-// Whether what follows a message is in a block: with a Stream Start one begins, and with a Stream Stop it ends.
-pub fn stays_in_block(in_block: bool, message: &[u8]) -> bool {
-    match message.first() {
+// Whether what follows a message of a kind is in a block: with a Stream Start one begins, and with a Stream Stop it ends.
+pub fn stays_in_block(in_block: bool, kind: Option<u8>) -> bool {
+    match kind {
         Some(b'S') => true,
         Some(b'E') => false,
         _ => in_block,
@@ -101,13 +101,13 @@ impl<'a> Block<'a> {
 }
 
 impl<'a> Plan<'a> {
-    fn is_inside(&mut self, message: &[u8]) -> bool {
-        let is_inside = self.in_block || message.starts_with(b"S");
-        self.in_block = stays_in_block(self.in_block, message);
+    fn is_inside(&mut self, record: Record<'_>) -> bool {
+        let is_inside = self.in_block || record.kind == Some(b'S');
+        self.in_block = stays_in_block(self.in_block, record.kind);
         is_inside
     }
 
-    // Puts a message into the last block.
+    // Puts a message into the last block, which has the xid of the first that is put into it.
     fn put(&mut self, bytes: &'a [u8]) -> Result<(), AllocError> {
         let planned = Planned {
             bytes,
@@ -116,6 +116,9 @@ impl<'a> Plan<'a> {
             present: None,
         };
         if let Some(block) = self.blocks.last_mut() {
+            if block.messages.is_empty() {
+                block.xid = xid_of(bytes);
+            }
             block.messages.push(planned)?;
             self.messages = self.messages.saturating_add(1);
         }
@@ -130,49 +133,54 @@ impl<'a> Plan<'a> {
         Ok(())
     }
 
-    // The blocks.
-    fn put_inside(&mut self, alloc: Global, messages: &[&'a [u8]]) -> Result<(), AllocError> {
-        for message in messages {
-            if self.is_inside(message) {
-                if message.starts_with(b"S") {
-                    self.begin(alloc, message)?;
+    // The blocks, as far as there is room.
+    fn put_inside(&mut self, alloc: Global, records: Records<'a>) -> Result<(), AllocError> {
+        for record in records {
+            if !self.has_room() {
+                break;
+            }
+            if self.is_inside(record) {
+                if record.kind == Some(b'S') {
+                    self.begin(alloc, record.message)?;
                 }
-                self.put(message)?;
+                self.put(record.message)?;
             }
         }
         self.in_blocks = self.messages;
         Ok(())
     }
 
-    // Those outside of blocks. A block that is still open when the feeds end goes on at their start.
-    fn put_outside(&mut self, alloc: Global, messages: &[&'a [u8]]) -> Result<(), AllocError> {
-        let mut outside = Vec::new(alloc);
-        for message in messages {
-            if !self.is_inside(message) {
-                outside.push(*message)?;
+    // Those outside of blocks, as far as there is room. A block that is still open when the feeds end goes on at their start. Where no
+    // message is outside, the xid is that of the first of all.
+    fn put_outside(&mut self, alloc: Global, records: Records<'a>) -> Result<(), AllocError> {
+        let mut ahead = records;
+        let first = ahead.next().map(|record| record.message);
+        self.begin(alloc, first.unwrap_or(&[]))?;
+        for record in records {
+            if !self.has_room() {
+                break;
             }
-        }
-        let first = outside.first().or(messages.first());
-        self.begin(alloc, first.copied().unwrap_or(&[]))?;
-        for message in &outside {
-            self.put(message)?;
+            if !self.is_inside(record) {
+                self.put(record.message)?;
+            }
         }
         Ok(())
     }
 
     pub fn of(alloc: Global, trace: &'a [u8]) -> Result<Plan<'a>, AllocError> {
-        let Records { messages, .. } = Records::of(alloc, trace, FEED)?;
+        let records = Records::of(trace, FEED);
         let mut plan = Plan {
             blocks: Vec::new(alloc),
             in_block: false,
             messages: 0,
             in_blocks: 0,
         };
-        plan.put_inside(alloc, messages.as_slice())?;
-        plan.put_outside(alloc, messages.as_slice())?;
+        plan.put_inside(alloc, records)?;
+        plan.put_outside(alloc, records)?;
         Ok(plan)
     }
 
+    // Whether there was room for all.
     pub fn has_room(&self) -> bool {
         self.messages <= MESSAGES && self.blocks.len() <= BLOCKS
     }

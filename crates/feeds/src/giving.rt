@@ -1,5 +1,5 @@
 // Gives the messages of a feed, each tagged with its index, to a session and to a session with a keeper.
-use crate::records::{FEED, KEPT, Records};
+use crate::records::{FEED, KEPT, Record, Records};
 use session::Answer;
 use std::alloc::{AllocError, Global};
 use wire::Refusal;
@@ -70,40 +70,28 @@ impl Sessions {
         self.out.get(..given.released).unwrap_or(&[])
     }
 
-    fn print_released(
-        &self,
-        rt: &(impl Print + AllocGlobal),
-        index: usize,
-        given: Given,
-    ) -> Result<(), AllocError> {
+    fn print_released(&self, rt: &impl Print, index: usize, given: Given) {
         let released = self.released(given);
-        let Records { messages, is_all } = Records::of(rt.alloc(), released, KEPT)?;
         let _ = print!(rt; "{index}: released {} bytes in ", released.len());
-        if !is_all {
+        let mut records = Records::of(released, KEPT);
+        let count = records.by_ref().count();
+        if !records.is_empty() {
             let _ = rt.println("not a record");
         }
-        let _ = println!(rt; "{} records", messages.len());
-        Ok(())
+        let _ = println!(rt; "{count} records");
     }
 
     // Prints what an accepted Stream Commit released, where the keeper's answer is not the session's own, and each refusal.
-    fn print_given(
-        &self,
-        rt: &(impl Print + AllocGlobal),
-        index: usize,
-        message: &[u8],
-        given: Given,
-    ) -> Result<(), AllocError> {
+    fn print_given(&self, rt: &impl Print, index: usize, message: &[u8], given: Given) {
         if given.keeping != given.alone {
             let _ = println!(rt; "{index}: another answer with a keeper");
         }
         if given.keeping.is_ok() && message.starts_with(b"c") {
-            self.print_released(rt, index, given)?;
+            self.print_released(rt, index, given);
         }
         if let Err(Refusal { number, offset }) = given.alone {
             let _ = println!(rt; "{index}: {number} at {offset}");
         }
-        Ok(())
     }
 
     // What is held in the end, and how many of the messages were accepted.
@@ -115,22 +103,18 @@ impl Sessions {
     }
 
     // Gives every message of a feed to fresh sessions.
-    pub fn give_all(
-        &mut self,
-        rt: &(impl Print + AllocGlobal),
-        version: u32,
-        trace: &[u8],
-    ) -> Result<(), AllocError> {
-        let Records { messages, is_all } = Records::of(rt.alloc(), trace, FEED)?;
+    pub fn give_all(&mut self, rt: &impl Print, version: u32, trace: &[u8]) {
         self.start(version);
-        for (index, message) in messages.iter().enumerate() {
-            let given = self.give(message, index as u64);
-            self.print_given(rt, index, message, given)?;
+        let mut records = Records::of(trace, FEED);
+        let mut messages: usize = 0;
+        for Record { message, .. } in records.by_ref() {
+            let given = self.give(message, messages as u64);
+            self.print_given(rt, messages, message, given);
+            messages = messages.saturating_add(1);
         }
-        if !is_all {
+        if !records.is_empty() {
             let _ = rt.println("not a record");
         }
-        self.print_counts(rt, messages.len());
-        Ok(())
+        self.print_counts(rt, messages);
     }
 }

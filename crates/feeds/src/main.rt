@@ -81,7 +81,7 @@ fn run_feed(
     let mut trace = Vec::new(rt.alloc());
     read_feed(rt, name, &mut trace)?;
     let version = version_of(name);
-    sessions.give_all(rt, version, trace.as_slice())?;
+    sessions.give_all(rt, version, trace.as_slice());
     binary::read_all(rt.alloc(), version, trace.as_slice())?.print(rt);
     Ok(())
 }

@@ -1,5 +1,4 @@
-// The binary values of a feed, and what they sum to.
-use std::alloc::{AllocError, Global};
+// What the binary values of a feed sum to.
 use values::{Bits, Value};
 
 // A float with the pattern that it is written as.
@@ -10,18 +9,38 @@ struct Float {
     is_subnormal: bool,
 }
 
+// Floats of one format: how many there are, how many of them are of each kind, and all patterns, exclusive-or.
+#[derive(Clone, Copy, Default)]
+struct Floats {
+    count: usize,
+    nans: usize,
+    infinite: usize,
+    subnormal: usize,
+    negative: usize,
+    bits: u64,
+}
+
+// Whole numbers: how many there are, and their sum in 64 bits.
+#[derive(Clone, Copy, Default)]
+struct Integers {
+    count: usize,
+    sum: i64,
+}
+
 // Whole numbers, floats of one format, times and how many bytes values of other types have; and how many values were refused, or written
 // as something else.
 #[derive(Drop)]
 pub struct Sums {
-    bools: Vec<i64>,
-    int2s: Vec<i64>,
-    int4s: Vec<i64>,
-    int8s: Vec<i64>,
-    float4s: Vec<Float>,
-    float8s: Vec<Float>,
-    times: Vec<i64>,
-    raws: Vec<i64>,
+    bools: Integers,
+    int2s: Integers,
+    int4s: Integers,
+    int8s: Integers,
+    float4s: Floats,
+    float8s: Floats,
+    times: Integers,
+    least: i64,
+    greatest: i64,
+    raws: Integers,
     wrong: usize,
 }
 
@@ -42,64 +61,91 @@ fn nan(bits: u64) -> Float {
     }
 }
 
-// The sum in 64 bits.
-fn sum(numbers: &[i64]) -> i64 {
-    numbers.iter().fold(0i64, |sum, n| sum.wrapping_add(*n))
+// One more, if it is so.
+fn add_if(count: &mut usize, is_so: bool) {
+    *count = count.saturating_add(usize::from(is_so));
 }
 
-fn print_sum(rt: &impl Print, numbers: &[i64], what: &str) {
-    let _ = println!(rt; "{} {what} {}", numbers.len(), sum(numbers));
+fn print_sum(rt: &impl Print, Integers { count, sum }: Integers, what: &str) {
+    let _ = println!(rt; "{count} {what} {sum}");
 }
 
-fn print_floats(rt: &impl Print, floats: &[Float], name: &str) {
-    let nans = floats.iter().filter(|x| x.value.is_nan()).count();
-    let infinite = floats.iter().filter(|x| x.value.is_infinite()).count();
-    let subnormal = floats.iter().filter(|x| x.is_subnormal).count();
-    let negative = floats.iter().filter(|x| x.value < 0.0).count();
-    let bits = floats.iter().fold(0u64, |bits, x| bits ^ x.bits);
+fn print_floats(rt: &impl Print, floats: Floats, name: &str) {
+    let Floats {
+        count,
+        nans,
+        infinite,
+        subnormal,
+        negative,
+        bits,
+    } = floats;
     let _ = println!(rt;
-        "{} {name}: {nans} NaN, {infinite} infinite, {subnormal} subnormal, {negative} below 0, all bits xor {bits}",
-        floats.len()
+        "{count} {name}: {nans} NaN, {infinite} infinite, {subnormal} subnormal, {negative} below 0, all bits xor {bits}"
     );
 }
 
+impl Integers {
+    fn add(&mut self, n: i64) {
+        self.count = self.count.saturating_add(1);
+        self.sum = self.sum.wrapping_add(n);
+    }
+}
+
+impl Floats {
+    fn add(&mut self, x: Float) {
+        self.count = self.count.saturating_add(1);
+        add_if(&mut self.nans, x.value.is_nan());
+        add_if(&mut self.infinite, x.value.is_infinite());
+        add_if(&mut self.subnormal, x.is_subnormal);
+        add_if(&mut self.negative, x.value < 0.0);
+        self.bits ^= x.bits;
+    }
+}
+
 impl Sums {
-    pub fn new(alloc: Global) -> Sums {
+    pub fn new() -> Sums {
         Sums {
-            bools: Vec::new(alloc),
-            int2s: Vec::new(alloc),
-            int4s: Vec::new(alloc),
-            int8s: Vec::new(alloc),
-            float4s: Vec::new(alloc),
-            float8s: Vec::new(alloc),
-            times: Vec::new(alloc),
-            raws: Vec::new(alloc),
+            bools: Integers::default(),
+            int2s: Integers::default(),
+            int4s: Integers::default(),
+            int8s: Integers::default(),
+            float4s: Floats::default(),
+            float8s: Floats::default(),
+            times: Integers::default(),
+            least: i64::MAX,
+            greatest: i64::MIN,
+            raws: Integers::default(),
             wrong: 0,
         }
     }
 
-    pub fn add(&mut self, value: Value) -> Result<(), AllocError> {
+    fn add_time(&mut self, time: i64) {
+        self.times.add(time);
+        self.least = self.least.min(time);
+        self.greatest = self.greatest.max(time);
+    }
+
+    pub fn add(&mut self, value: Value) {
         match value {
-            Value::Bool(v) => self.bools.push(i64::from(v))?,
-            Value::Int2(v) => self.int2s.push(i64::from(v))?,
-            Value::Int4(v) => self.int4s.push(i64::from(v))?,
-            Value::Int8(v) => self.int8s.push(v)?,
-            Value::Float4(x) => self.float4s.push(Float {
+            Value::Bool(v) => self.bools.add(i64::from(v)),
+            Value::Int2(v) => self.int2s.add(i64::from(v)),
+            Value::Int4(v) => self.int4s.add(i64::from(v)),
+            Value::Int8(v) => self.int8s.add(v),
+            Value::Float4(x) => self.float4s.add(Float {
                 bits: bits_of(value),
                 value: std::num::f32_to_f64_with_nan(x),
                 is_subnormal: x.is_subnormal(),
-            })?,
-            Value::Float4Nan(bits) => self.float4s.push(nan(u64::from(bits)))?,
-            Value::Float8(x) => self.float8s.push(Float {
+            }),
+            Value::Float4Nan(bits) => self.float4s.add(nan(u64::from(bits))),
+            Value::Float8(x) => self.float8s.add(Float {
                 bits: bits_of(value),
                 value: x,
                 is_subnormal: x.is_subnormal(),
-            })?,
-            Value::Float8Nan(bits) => self.float8s.push(nan(bits))?,
-            Value::TimestampTz(v) => self.times.push(v)?,
-            Value::Raw { length, .. } => self.raws.push(length.cast_signed() as i64)?,
+            }),
+            Value::Float8Nan(bits) => self.float8s.add(nan(bits)),
+            Value::TimestampTz(v) => self.add_time(v),
+            Value::Raw { length, .. } => self.raws.add(length.cast_signed() as i64),
         }
-        Ok(())
     }
 
     // A value that was refused, or written as something else.
@@ -108,17 +154,12 @@ impl Sums {
     }
 
     fn count(&self) -> usize {
-        let floats = self.float4s.len().saturating_add(self.float8s.len());
+        let floats = self.float4s.count.saturating_add(self.float8s.count);
         [
-            &self.bools,
-            &self.int2s,
-            &self.int4s,
-            &self.int8s,
-            &self.times,
-            &self.raws,
+            self.bools, self.int2s, self.int4s, self.int8s, self.times, self.raws,
         ]
         .iter()
-        .fold(floats, |count, numbers| count.saturating_add(numbers.len()))
+        .fold(floats, |count, numbers| count.saturating_add(numbers.count))
     }
 
     // Prints the sums of a feed that has any binary value.
@@ -133,16 +174,14 @@ impl Sums {
             return;
         }
         let _ = println!(rt; "{} binary values read and written back", self.count());
-        print_sum(rt, self.bools.as_slice(), "bool, true:");
-        print_sum(rt, self.int2s.as_slice(), "int2, sum");
-        print_sum(rt, self.int4s.as_slice(), "int4, sum");
-        print_sum(rt, self.int8s.as_slice(), "int8, sum");
-        print_floats(rt, self.float4s.as_slice(), "float4");
-        print_floats(rt, self.float8s.as_slice(), "float8");
-        print_sum(rt, self.times.as_slice(), "timestamptz, sum");
-        let least = self.times.iter().copied().min().unwrap_or(i64::MAX);
-        let greatest = self.times.iter().copied().max().unwrap_or(i64::MIN);
-        let _ = println!(rt; "times from {least} to {greatest}");
-        print_sum(rt, self.raws.as_slice(), "of other types, bytes");
+        print_sum(rt, self.bools, "bool, true:");
+        print_sum(rt, self.int2s, "int2, sum");
+        print_sum(rt, self.int4s, "int4, sum");
+        print_sum(rt, self.int8s, "int8, sum");
+        print_floats(rt, self.float4s, "float4");
+        print_floats(rt, self.float8s, "float8");
+        print_sum(rt, self.times, "timestamptz, sum");
+        let _ = println!(rt; "times from {} to {}", self.least, self.greatest);
+        print_sum(rt, self.raws, "of other types, bytes");
     }
 }
