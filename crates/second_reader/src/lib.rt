@@ -16,6 +16,7 @@ ghost use Rattle.std.specs.Prelude.{◌≡◌, ◌≤◌, length};
 ghost use Rattle.second_reader.specs.Bounds.{Advanced, Answered, Numbered};
 
 mod fields;
+mod listed;
 mod reader;
 mod refusals;
 mod seen;

@@ -2,8 +2,6 @@
 
 ghost use Rattle.std.specs.Prelude.{◌≤◌};
 
-const ROOM: usize = 16;
-
 // Up to 16 numbers, in an array with its count, since the library uses no heap.
 #[derive(Clone, Copy, PartialEq, Eq)]
 pub struct Values {
@@ -20,40 +18,4 @@ pub struct Values {
 pub struct Seen {
     pub length: usize,
     pub values: Values,
-}
-
-impl Values {
-    pub fn new() -> Self {
-        Values {
-            count: 0,
-            numbers: [0; 16],
-        }
-    }
-
-    // As many of these as there is room for.
-    pub fn of(numbers: &[u64]) -> Self {
-        let mut values = Self::new();
-        for number in numbers {
-            values.push(*number);
-        }
-        values
-    }
-
-    // A value more, while there is room.
-    pub fn push(&mut self, value: u64) {
-        if self.count < ROOM {
-            self.numbers[self.count] = value;
-            self.count += 1;
-        }
-    }
-
-    pub fn as_slice(&self) -> &[u64] {
-        &self.numbers[..self.count]
-    }
-
-    // The value that `back` others stand behind.
-    pub fn earlier(&self, back: usize) -> u64 {
-        let values = self.as_slice();
-        values.iter().rev().nth(back).copied().unwrap_or(0)
-    }
 }
