@@ -158,7 +158,7 @@ module _ (base : List Row) (start : ℕ) (p : Row → Bool) (old rows : List Row
       rw (part-next start i old s.low b, keep_append p (part start (i - start) old) (get_or old i no_row))
       (sym (append_assoc base (keep p (part start (i - start) old)) (cond (p (get_or old i no_row)) (get_or old i no_row ∷ []) [])))
 
-  keep_turn : (rows' : List Row) → p (get_or rows i no_row) ≡ true → rows' ≡ set rows kept (get_or rows i no_row) → Keeping base start p old rows' (kept + 1) (i + 1)
+  pub keep_turn : (rows' : List Row) → p (get_or rows i no_row) ≡ true → rows' ≡ set rows kept (get_or rows i no_row) → Keeping base start p old rows' (kept + 1) (i + 1)
   keep_turn rows' t e =
       let m : base ++ keep p (part start (i + 1 - start) old) ≡ new ++ get_or old i no_row ∷ [] = one_more ∙ rw (← kept_row, t) in
       record {

@@ -45,7 +45,7 @@ module _ (a : Announcements) (from size : ℕ) (fits : from + size ≤ length a.
   abbrev mine : List Row
   mine = part from size (row_list a)
 
-  mine_size : length mine ≡ size
+  pub mine_size : length mine ≡ size
   mine_size = let n = length-take size (drop from (row_list a)) in let m = length-drop from (row_list a) in let c = row_list_length a in omega arith
 
   mine_at : (i : ℕ) → i < size → get_or mine i no_row ≡ row (get_or a.keys (from + i) 0) (get_or a.tags (from + i) 0) (get_or a.identities (from + i) 0) (get_or a.columns (from + i) 0)

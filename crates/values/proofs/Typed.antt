@@ -21,7 +21,8 @@ use Rattle.values.specs.declared.ValueKind.{ValueKind}
 use Rattle.values.specs.declared.ValueKind.TheVariants as k
 use Rattle.values.specs.declared.Value.{Value}
 use Rattle.values.specs.Types.{row_of, is_raw, has_width, value_of, typed_value}
-use Rattle.values.specs.Steps.{binary_field, typed_in, typed_of, typed_step}
+use Rattle.values.specs.AsRead.{binary_field, typed_in, typed_of}
+use Rattle.values.specs.Steps.{typed_step}
 
 -- KINDS
 

@@ -1,10 +1,7 @@
 -- To be believed (binary values). One step past a binary column, from any position (document 02, #109): over the same fields and steps as `columns`.
 use Rattle.std.specs.Prelude.{ℕ, List, [], ◌∷◌, get_or, Option, Some, None, Result, Ok, Err}
 use Rattle.wire.specs.declared.Refusal.{Refusal}
-use Rattle.wire.specs.declared.Span.{Span}
-use Rattle.wire.specs.Cursors.{Cursor, Taken, refuse}
-use Rattle.wire.specs.Fields.{letter_field, value_field}
-use Rattle.wire.specs.Readers.{given}
+use Rattle.wire.specs.Cursors.{refuse}
 use Rattle.message.specs.Layout.{Field, constant, value}
 use Rattle.columns.specs.declared.Position.{Position}
 use Rattle.columns.specs.declared.Step.{Step}
@@ -37,15 +34,3 @@ typed_step xs p oid =
     let s = step_at binary xs p in
     let k = typed_item xs oid s in
     record { item = k; next = moved_by k (after s p) p }
-
--- AS IT IS READ (for contracts only): the bytes of a `b` column, and its value by a type OID
-
-abbrev pub binary_field : List ℕ → Cursor → Taken Span
-binary_field xs c = value_field xs (letter_field (0x62 ∷ []) xs c).next
-
-abbrev pub typed_in : List ℕ → ℕ → Result Span Refusal → Result Value Refusal
-typed_in xs oid (Ok s) = typed_value xs (kind_of_type oid) s.start s.length
-typed_in xs oid (Err r) = Err r
-
-abbrev pub typed_of : List ℕ → ℕ → Taken Span → Result Value Refusal
-typed_of xs oid f = typed_in xs oid (given f)

@@ -3,7 +3,8 @@ ghost use Rattle.std.specs.Prelude.{◌≡◌, ◌+◌, ◌≤◌, length, Ok};
 ghost use Rattle.wire.specs.Readers.{given, stands};
 ghost use Rattle.wire.specs.Fields.{number_field};
 ghost use Rattle.values.specs.Types.{row_of, float4_of, float8_of, value_of, typed_value};
-ghost use Rattle.values.specs.Steps.{binary_field, typed_of, typed_step};
+ghost use Rattle.values.specs.AsRead.{binary_field, typed_of};
+ghost use Rattle.values.specs.Steps.{typed_step};
 
 use crate::{Value, ValueKind, kinds};
 use columns::{Position, Step};

@@ -1,6 +1,6 @@
 use Rattle.std.proofs.Common.{sym, ◌∙◌}
 use Rattle.wire.proofs.Given.{went_on}
-use Rattle.values.specs.Steps.{binary_field}
+use Rattle.values.specs.AsRead.{binary_field}
 use Rattle.values.proofs.Inside.{inside}
 use Rattle.values.proofs.reading.typed_item.Goals as goal
 
