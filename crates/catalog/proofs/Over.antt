@@ -192,13 +192,18 @@ keep_end to start n p old rows kept i s e h =
     length-append (take to old) (keep p (part start n old)) ∙ (let l = length-take-le to old h in omega arith) in
     ((rw z at s.size) ∙ a, (rw z at s.is))
 
--- SOME ROWS ARE MOVED: k of those from `from` on stand at `to`
+-- SOME ROWS ARE MOVED
+
+-- k of the rows from `from` on stand at `to`
+abbrev pub Moved : ℕ → ℕ → List Row → List Row → ℕ → Type 0
+Moved to from old rows k = rows ≡ over (take to old ++ part from k old) old
+
 module _ (to from : ℕ) (old : List Row) (h : to ≤ from) where
-  pub move_start : to ≤ length old → old ≡ over (take to old ++ part from 0 old) old
+  pub move_start : to ≤ length old → Moved to from old old 0
   move_start m = sym (rw (append-nil (take to old)) (over_self to old))
 
-  pub move_turn : (k : ℕ) (rows rows' : List Row) → from + k < length old → rows ≡ over (take to old ++ part from k old) old
-      → rows' ≡ set rows (to + k) (get_or rows (from + k) no_row) → rows' ≡ over (take to old ++ part from (k + 1) old) old
+  pub move_turn : (k : ℕ) (rows rows' : List Row) → from + k < length old → Moved to from old rows k
+      → rows' ≡ set rows (to + k) (get_or rows (from + k) no_row) → Moved to from old rows' (k + 1)
   move_turn k rows rows' b is e =
       let new : List Row = take to old ++ part from k old in
       let r : Row = get_or old (from + k) no_row in

@@ -3,7 +3,6 @@ use Rattle.std.proofs.Common.{◌≡◌, ℕ, ◌+◌, ◌-◌, ◌<◌, ◌≤�
 use Rattle.std.specs.Prelude.{Option, Some, None, Ok, Err}
 use Rattle.wire.specs.declared.Span.{Span}
 use Rattle.wire.specs.Cursors.{Cursor, refuse, Taken}
-use Rattle.std.specs.List.{list_any}
 use Rattle.wire.specs.Numbers.{word_at}
 use Rattle.wire.specs.Fields.{number_field, judged, member, until_zero, text_field, no_span, letter_field}
 
@@ -23,11 +22,6 @@ value_le w low high n xs (Ok at) = word (word_at w xs at)
     word (Some v) = test (leb low v) (leb v high) v refl
 
 -- a byte is among those of a set
-pub member_any : (set : List ℕ) (v : ℕ) → list_any (λ (x : ℕ). x == v) set ≡ member set v
-unfolding member
-member_any [] v = refl
-member_any (x ∷ xs) v = ap (λ (b : Bool). x == v || b) (member_any xs v)
-
 module _ (xs : List ℕ) (i : ℕ) where
   pub member_here : (v : ℕ) → i < length xs → get_or xs i 0 ≡ v → member (drop i xs) v ≡ true
   unfolding member

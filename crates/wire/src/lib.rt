@@ -5,7 +5,7 @@ mod reader;
 mod zeros;
 
 pub use number::Number;
-pub use reader::{Reader, value_end};
+pub use reader::{Reader, contains, value_end};
 
 // Why and where a message was refused: the number of the refusal table, and an offset. Numbers stay: `Reader::number` promises its field
 // for any refusal number, `number_field` and the rules say each refusal by its number in the table, and C is given it.

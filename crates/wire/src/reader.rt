@@ -13,10 +13,10 @@ pub struct Reader<'a> {
     pub next: Cursor,
 }
 
-// Whether a byte is among a few. A call of std's `contains`, which goes by groups, takes longer than the rest of a letter.
+// Whether a byte is among those of a set, one byte at a time. A call of std's `contains`, which goes by groups, takes longer than the rest of a letter.
 #[inline(always)]
 #[tactic(auto, using(crate::proofs::Fields::member_here, crate::proofs::Fields::member_next, crate::proofs::Fields::member_end))]
-fn is_among(set: &[u8], b: u8) -> bool
+pub fn contains(set: &[u8], b: u8) -> bool
     ensures { result ≡ member set.now b }
 {
     for letter in set {
@@ -85,7 +85,7 @@ impl<'a> Reader<'a> {
             return self.refuse(Refusal::SHORT, at);
         }
         let b = self.bytes[at];
-        if !is_among(set, b) {
+        if !contains(set, b) {
             return self.refuse(Refusal::FIELD, at);
         }
         self.next = Ok(at + 1);

@@ -1,9 +1,10 @@
 #![tactic(auto, using(crate::proofs::Stores::lengths))]
 // The messages that a transaction's work makes: Insert, Update, Delete, Truncate and the logical message.
-ghost use Rattle.std.specs.Prelude.{◌≡◌, List, [], ℕ, ◌∷◌, ◌≤◌, length, Ok};
+ghost use Rattle.std.specs.Prelude.{◌≡◌, List, [], ℕ, ◌∷◌, ◌≤◌, length, Ok, Some};
 ghost use Rattle.message.specs.declared.Message.TheVariants as a;
+ghost use Rattle.message.specs.Kinds.{insert, update, delete};
 ghost use Rattle.message.specs.Layout.{id, tuple_end, groups_end};
-ghost use Rattle.message.specs.Pieces.{message_pieces, message_end, bytes_of};
+ghost use Rattle.message.specs.Pieces.{message_pieces, message_end, bytes_of, opened};
 ghost use Rattle.message.specs.Write.{write_message};
 ghost use Rattle.writer.specs.Answer.{Settles};
 ghost use Rattle.writer.specs.Store.{Stored, old_end};
@@ -25,10 +26,10 @@ fn store_insert(out: &mut [u8], m: Insert, source: &[u8], in_block: bool, end: C
     pen.section(source, m.tuple, end);
 }
 
-fn judge_insert(version: Version, in_block: bool, m: Insert, end: Cursor) -> Reach
-    ensures { (src : List ℕ) → end ≡ tuple_end src (Ok m.tuple) → result.end ≡ message_end version in_block (a.Insert m) src }
+fn judge_insert(reach: Reach, in_block: bool, m: Insert, end: Cursor) -> Reach
+    ensures { (version : Version) (src : List ℕ) → reach.end ≡ opened version in_block (Some insert) → end ≡ tuple_end src (Ok m.tuple) → result.end ≡ message_end version in_block (a.Insert m) src }
 {
-    Reach::open(version, in_block, Kind::Insert)
+    reach
         .xid(in_block, m.xid)
         .id(m.relation)
         .bytes(1)
@@ -44,8 +45,9 @@ pub fn write_insert(
 ) -> Result<usize, Refusal>
     ensures { Settles (write_message version in_block (a.Insert m) source.now) out.old result out.new }
 {
+    let reach = Reach::open(version, in_block, Kind::Insert);
     let end = judging::tuple_end(source, m.tuple);
-    let n = judge_insert(version, in_block, m, end).fit(out.len())?;
+    let n = judge_insert(reach, in_block, m, end).fit(out.len())?;
     store_insert(out, m, source, in_block, end);
     Ok(n)
 }
@@ -70,10 +72,10 @@ fn store_update(
     pen.section(source, m.tuple, end);
 }
 
-fn judge_update(version: Version, in_block: bool, m: Update, middle: Cursor, end: Cursor) -> Reach
-    ensures { (src : List ℕ) → middle ≡ old_end src m.old → end ≡ tuple_end src (Ok m.tuple) → result.end ≡ message_end version in_block (a.Update m) src }
+fn judge_update(reach: Reach, in_block: bool, m: Update, middle: Cursor, end: Cursor) -> Reach
+    ensures { (version : Version) (src : List ℕ) → reach.end ≡ opened version in_block (Some update) → middle ≡ old_end src m.old → end ≡ tuple_end src (Ok m.tuple) → result.end ≡ message_end version in_block (a.Update m) src }
 {
-    Reach::open(version, in_block, Kind::Update)
+    reach
         .xid(in_block, m.xid)
         .id(m.relation)
         .old(m.old, middle)
@@ -90,9 +92,10 @@ pub fn write_update(
 ) -> Result<usize, Refusal>
     ensures { Settles (write_message version in_block (a.Update m) source.now) out.old result out.new }
 {
+    let reach = Reach::open(version, in_block, Kind::Update);
     let middle = judging::old_end(source, m.old);
     let end = judging::tuple_end(source, m.tuple);
-    let n = judge_update(version, in_block, m, middle, end).fit(out.len())?;
+    let n = judge_update(reach, in_block, m, middle, end).fit(out.len())?;
     store_update(out, m, source, in_block, middle, end);
     Ok(n)
 }
@@ -109,10 +112,10 @@ fn store_delete(out: &mut [u8], m: Delete, source: &[u8], in_block: bool, end: C
     pen.section(source, m.tuple, end);
 }
 
-fn judge_delete(version: Version, in_block: bool, m: Delete, end: Cursor) -> Reach
-    ensures { (src : List ℕ) → end ≡ tuple_end src (Ok m.tuple) → result.end ≡ message_end version in_block (a.Delete m) src }
+fn judge_delete(reach: Reach, in_block: bool, m: Delete, end: Cursor) -> Reach
+    ensures { (version : Version) (src : List ℕ) → reach.end ≡ opened version in_block (Some delete) → end ≡ tuple_end src (Ok m.tuple) → result.end ≡ message_end version in_block (a.Delete m) src }
 {
-    Reach::open(version, in_block, Kind::Delete)
+    reach
         .xid(in_block, m.xid)
         .id(m.relation)
         .letter(b"KO", m.image)
@@ -128,8 +131,9 @@ pub fn write_delete(
 ) -> Result<usize, Refusal>
     ensures { Settles (write_message version in_block (a.Delete m) source.now) out.old result out.new }
 {
+    let reach = Reach::open(version, in_block, Kind::Delete);
     let end = judging::tuple_end(source, m.tuple);
-    let n = judge_delete(version, in_block, m, end).fit(out.len())?;
+    let n = judge_delete(reach, in_block, m, end).fit(out.len())?;
     store_delete(out, m, source, in_block, end);
     Ok(n)
 }

@@ -102,7 +102,7 @@ fn judge_text(source: &[u8], text: Span) -> Cursor
     if !lies(source, text) {
         return refused(Refusal::SHORT);
     }
-    if cut_of(source, text.start, text.length).contains(&0) {
+    if wire::contains(cut_of(source, text.start, text.length), 0) {
         return refused(Refusal::FIELD);
     }
     Ok(text.length + 1)
@@ -211,7 +211,7 @@ impl Reach {
     pub fn letter(self, set: &[u8], letter: u8) -> Reach
         ensures { result.end ≡ advanced 0 (tested (member set.now letter) 1 4) self.end }
     {
-        self.field(test(set.contains(&letter), 1, Refusal::FIELD))
+        self.field(test(wire::contains(set, letter), 1, Refusal::FIELD))
     }
 
     // A text of the source, with its zero byte.

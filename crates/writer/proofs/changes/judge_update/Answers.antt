@@ -4,14 +4,14 @@ use Rattle.writer.proofs.Old.{old-steps}
 use Rattle.writer.proofs.changes.judge_update.Goals as goal
 
 pub returns : goal.returns
-returns c src middle end =
+returns c version src opened middle end =
     rw (
       c.section.ensures,
       c.bytes.ensures,
       c.old.ensures,
       c.id.ensures,
       c.xid.ensures,
-      c.open.ensures,
+      opened,
       end,
     )
     (old-steps src c.args.m.old middle _ (byte_piece 0x4E ∷ tuple_piece src c.args.m.tuple ∷ []))

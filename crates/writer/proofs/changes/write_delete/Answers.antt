@@ -8,10 +8,10 @@ use Rattle.writer.proofs.changes.write_delete.Goals as goal
 pub returns-in_err-n : goal.returns-in_err-n
 returns-in_err-n c =
     let given : c.from_residual.result ≡ Err c.in_err-n.field-0.0 = search rules in
-    rw given (refused_whole c.args.version c.args.in_block (a.Delete c.args.m) c.args.source.now c.args.out.now (c.judge_delete.ensures c.args.source.now c.tuple_end-end.ensures) c.fit.ensures c.in_err-n.was)
+    rw given (refused_whole c.args.version c.args.in_block (a.Delete c.args.m) c.args.source.now c.args.out.now (c.judge_delete.ensures c.args.version c.args.source.now c.open-reach.ensures c.tuple_end-end.ensures) c.fit.ensures c.in_err-n.was)
 
 pub store_delete-requires : goal.store_delete-requires
-store_delete-requires c = (c.tuple_end-end.ensures, has_room c.args.version c.args.in_block (a.Delete c.args.m) c.args.source.now c.args.out.now (c.judge_delete.ensures c.args.source.now c.tuple_end-end.ensures) c.fit.ensures c.in_ok-n.was)
+store_delete-requires c = (c.tuple_end-end.ensures, has_room c.args.version c.args.in_block (a.Delete c.args.m) c.args.source.now c.args.out.now (c.judge_delete.ensures c.args.version c.args.source.now c.open-reach.ensures c.tuple_end-end.ensures) c.fit.ensures c.in_ok-n.was)
 
 pub returns : goal.returns
-returns c = accepted c.args.version c.args.in_block (a.Delete c.args.m) c.args.source.now c.args.out.now (c.judge_delete.ensures c.args.source.now c.tuple_end-end.ensures) c.fit.ensures c.in_ok-n.was c.store_delete.ensures
+returns c = accepted c.args.version c.args.in_block (a.Delete c.args.m) c.args.source.now c.args.out.now (c.judge_delete.ensures c.args.version c.args.source.now c.open-reach.ensures c.tuple_end-end.ensures) c.fit.ensures c.in_ok-n.was c.store_delete.ensures

@@ -8,10 +8,10 @@ use Rattle.writer.proofs.changes.write_update.Goals as goal
 pub returns-in_err-n : goal.returns-in_err-n
 returns-in_err-n c =
     let given : c.from_residual.result ≡ Err c.in_err-n.field-0.0 = search rules in
-    rw given (refused_whole c.args.version c.args.in_block (a.Update c.args.m) c.args.source.now c.args.out.now (c.judge_update.ensures c.args.source.now c.old_end-middle.ensures c.tuple_end-end.ensures) c.fit.ensures c.in_err-n.was)
+    rw given (refused_whole c.args.version c.args.in_block (a.Update c.args.m) c.args.source.now c.args.out.now (c.judge_update.ensures c.args.version c.args.source.now c.open-reach.ensures c.old_end-middle.ensures c.tuple_end-end.ensures) c.fit.ensures c.in_err-n.was)
 
 pub store_update-requires : goal.store_update-requires
-store_update-requires c = (c.old_end-middle.ensures, c.tuple_end-end.ensures, has_room c.args.version c.args.in_block (a.Update c.args.m) c.args.source.now c.args.out.now (c.judge_update.ensures c.args.source.now c.old_end-middle.ensures c.tuple_end-end.ensures) c.fit.ensures c.in_ok-n.was)
+store_update-requires c = (c.old_end-middle.ensures, c.tuple_end-end.ensures, has_room c.args.version c.args.in_block (a.Update c.args.m) c.args.source.now c.args.out.now (c.judge_update.ensures c.args.version c.args.source.now c.open-reach.ensures c.old_end-middle.ensures c.tuple_end-end.ensures) c.fit.ensures c.in_ok-n.was)
 
 pub returns : goal.returns
-returns c = accepted c.args.version c.args.in_block (a.Update c.args.m) c.args.source.now c.args.out.now (c.judge_update.ensures c.args.source.now c.old_end-middle.ensures c.tuple_end-end.ensures) c.fit.ensures c.in_ok-n.was c.store_update.ensures
+returns c = accepted c.args.version c.args.in_block (a.Update c.args.m) c.args.source.now c.args.out.now (c.judge_update.ensures c.args.version c.args.source.now c.open-reach.ensures c.old_end-middle.ensures c.tuple_end-end.ensures) c.fit.ensures c.in_ok-n.was c.store_update.ensures
