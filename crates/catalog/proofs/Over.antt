@@ -202,9 +202,9 @@ module _ (to from : ℕ) (old : List Row) (h : to ≤ from) where
   pub move_start : to ≤ length old → Moved to from old old 0
   move_start m = sym (rw (append-nil (take to old)) (over_self to old))
 
-  pub move_turn : (k : ℕ) (rows rows' : List Row) → from + k < length old → Moved to from old rows k
-      → rows' ≡ set rows (to + k) (get_or rows (from + k) no_row) → Moved to from old rows' (k + 1)
-  move_turn k rows rows' b is e =
+  pub move_turn : (k : ℕ) (rows rows' : List Row) {i j : ℕ} → from + k < length old → Moved to from old rows k
+      → rows' ≡ set rows j (get_or rows i no_row) → i ≡ from + k → j ≡ to + k → Moved to from old rows' (k + 1)
+  move_turn k rows rows' b is e at_from at_to =
       let new : List Row = take to old ++ part from k old in
       let r : Row = get_or old (from + k) no_row in
       let n : length new ≡ to + k =
@@ -212,4 +212,4 @@ module _ (to from : ℕ) (old : List Row) (h : to ≤ from) where
       let g : get_or rows (from + k) no_row ≡ r = rw is (over-at new old (from + k) (omega arith)) in
       let p : part from (k + 1) old ≡ part from k old ++ r ∷ [] =
       rw (add-one k) (take-suc (drop from old) k no_row (omega (arith, length-drop from old)) ∙ ap (λ (x : Row). part from k old ++ x ∷ []) (get_or-drop from old k no_row)) in
-      e ∙ rw (g, is, ← n) (over_push new old r (omega arith)) ∙ ap (λ (m : List Row). over m old) (append_assoc (take to old) (part from k old) (r ∷ []) ∙ rw (← p))
+      rw (at_from, at_to) at e ∙ rw (g, is, ← n) (over_push new old r (omega arith)) ∙ ap (λ (m : List Row). over m old) (append_assoc (take to old) (part from k old) (r ∷ []) ∙ rw (← p))

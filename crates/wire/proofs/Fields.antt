@@ -21,7 +21,7 @@ value_le w low high n xs (Ok at) = word (word_at w xs at)
     word None = omega arith
     word (Some v) = test (leb low v) (leb v high) v refl
 
--- a byte is among those of a set
+-- the bytes of a set, and of a text, from i on
 module _ (xs : List ℕ) (i : ℕ) where
   pub member_here : (v : ℕ) → i < length xs → get_or xs i 0 ≡ v → member (drop i xs) v ≡ true
   unfolding member

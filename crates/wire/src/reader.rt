@@ -13,7 +13,8 @@ pub struct Reader<'a> {
     pub next: Cursor,
 }
 
-// Whether a byte is among those of a set, one byte at a time. A call of std's `contains`, which goes by groups, takes longer than the rest of a letter.
+// Whether a byte is among those of a set, one byte at a time. A call of std's `contains`, which goes by groups, takes longer than the rest
+// of a letter.
 #[inline(always)]
 #[tactic(auto, using(crate::proofs::Fields::member_here, crate::proofs::Fields::member_next, crate::proofs::Fields::member_end))]
 pub fn contains(set: &[u8], b: u8) -> bool

@@ -1,5 +1,6 @@
 #![tactic(auto, using(crate::proofs::Stores::lengths))]
-// The messages that a transaction's work makes: Insert, Update, Delete, Truncate and the logical message.
+// The messages that a transaction's work makes: Insert, Update, Delete, Truncate and the logical message. An Insert, Update and Delete ask
+// version and kind before a tuple's end is looked up, so their `judge_KIND` goes on from there.
 ghost use Rattle.std.specs.Prelude.{◌≡◌, List, [], ℕ, ◌∷◌, ◌≤◌, length, Ok, Some};
 ghost use Rattle.message.specs.declared.Message.TheVariants as a;
 ghost use Rattle.message.specs.Kinds.{insert, update, delete};

@@ -9,4 +9,4 @@ loop-k-init c = let a = c.args in move_start a.to a.from (row_list a.self.now) c
 
 pub loop-k-preserved : goal.loop-k-preserved
 loop-k-preserved c = let a = c.args in let l = c.loop-k in
-    move_turn a.to a.from (row_list a.self.now) c.requires.ordered l.k _ _ (omega (arith, row_list_length a.self.now)) l.invariant c.move_row.ensures
+    move_turn a.to a.from (row_list a.self.now) c.requires.ordered l.k _ _ (omega (arith, row_list_length a.self.now)) l.invariant c.move_row.ensures (omega arith) (omega arith)
